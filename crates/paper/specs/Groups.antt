@@ -1,0 +1,107 @@
+-- Document 01, "How a group is read", and of "The sheet" what a gate is. Assumes nothing.
+use Prim.Native.Nat.{ℕ, _-_, max}
+use mathlib.Core.Bool.{Bool, true, false, cond, _&&_}
+use mathlib.Core.List.{List, [], _∷_, _++_}
+use mathlib.Core.Option.{Option, none, some}
+use lib.Dec.{eqb, leb}
+use lib.ListN.{length, take, drop}
+use Rattle.paper.specs.Conditions.{holds}
+
+-- what a rule does: S2 follows the part, or the part loses its last letter
+pub data Action : Type 0 where
+  replace : List ℕ → Action
+  single-letter : Action
+
+-- "A group is a list of rules: condition, ending S1, replacement S2." A rule may open the next group.
+pub record Rule : Type 0 where
+  pub condition : ℕ
+  pub ending : List ℕ
+  pub action : Action
+  pub opens : Bool
+
+-- "0: always run. 1: run only if the group just before was run and obeyed a rule that opens."
+pub data Gate : Type 0 where
+  always if-opened : Gate
+
+pub record Group : Type 0 where
+  pub gate : Gate
+  pub rules : List Rule
+
+-- two lists of letters are the same
+unfoldable pub same : List ℕ → List ℕ → Bool
+same [] [] = true
+same [] (y ∷ ys) = false
+same (x ∷ xs) [] = false
+same (x ∷ xs) (y ∷ ys) = eqb x y && same xs ys
+
+-- the word ends with S1: its last letters are S1. "the empty S1 ends every word and S1 may be the whole word"
+unfoldable pub endsWith : List ℕ → List ℕ → Bool
+endsWith word s1 = same (drop (length word - length s1) word) s1
+
+-- "the part before S1"
+unfoldable pub before : List ℕ → List ℕ → List ℕ
+before word s1 = take (length word - length s1) word
+
+-- the rules that pass a test, in their order
+unfoldable pub which : (Rule → Bool) → List Rule → List Rule
+which test [] = []
+which test (rule ∷ rules) = cond (test rule) (rule ∷ which test rules) (which test rules)
+
+-- the first rule that passes a test
+unfoldable pub first : (Rule → Bool) → List Rule → Option Rule
+first test [] = none
+first test (rule ∷ rules) = cond (test rule) (some rule) (first test rules)
+
+-- the rules of the group whose S1 the word ends with
+unfoldable pub fitting : List ℕ → List Rule → List Rule
+fitting word rules = which (λ rule. endsWith word (rule .ending)) rules
+
+-- how long the longest S1 of these rules is
+unfoldable pub longest : List Rule → ℕ
+longest [] = 0
+longest (rule ∷ rules) = max (length (rule .ending)) (longest rules)
+
+-- "Take the longest S1 of the group that the word ends with": the rules with that S1
+unfoldable pub chosen : List ℕ → List Rule → List Rule
+chosen word rules = let n = longest (fitting word rules) in which (λ rule. eqb (length (rule .ending)) n) (fitting word rules)
+
+-- "Of the rules with that S1, the first in sheet order whose condition holds is obeyed"; "If none of them holds, the group
+-- changes nothing; no shorter S1 is tried."
+unfoldable pub obeyed : List ℕ → List Rule → Option Rule
+obeyed word rules = first (λ rule. holds (rule .condition) (before word (rule .ending))) (chosen word rules)
+
+-- "the result is the part before S1 followed by S2"; "'Single letter' drops the last letter of the part"
+unfoldable pub act : Action → List ℕ → List ℕ
+act (replace s2) part = part ++ s2
+act single-letter part = take (length part - 1) part
+
+-- what a group gives: the word, and whether the rule obeyed opens the next group
+pub record Result : Type 0 where
+  pub word : List ℕ
+  pub opened : Bool
+
+unfoldable pub resultOf : List ℕ → Option Rule → Result
+resultOf word none = record { word = word; opened = false }
+resultOf word (some rule) = record { word = act (rule .action) (before word (rule .ending)); opened = rule .opens }
+
+unfoldable pub readGroup : List ℕ → List Rule → Result
+readGroup word rules = resultOf word (obeyed word rules)
+
+abbrev pub runs : Gate → Bool → Bool
+runs always opened = true
+runs if-opened opened = opened
+
+-- what reading groups gives: the word they leave, or that some group's result was longer than the word's place
+pub data Reading : Type 0 where
+  done : List ℕ → Reading
+  outgrown : Reading
+
+-- the groups read in their order, in a place of so many bytes; `opened` says whether the group just before was run and
+-- obeyed a rule that opens
+unfoldable pub read : ℕ → List Group → Bool → List ℕ → Reading
+read place [] opened word = done word
+read place (group ∷ groups) opened word =
+    let result = readGroup word (group .rules) in
+    let run = cond (leb (length (result .word)) place) (read place groups (result .opened) (result .word)) outgrown in
+    let skipped = read place groups false word in
+    cond (runs (group .gate) opened) run skipped

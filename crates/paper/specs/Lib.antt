@@ -1,0 +1,8 @@
+-- The paper, read as document 01 reads it. First the definitions, one subject to a file, in 01's order; then what is
+-- shown of them.
+pub mod Letters
+pub mod Conditions
+pub mod Groups
+pub mod Shipped
+pub mod Words
+pub mod Samples

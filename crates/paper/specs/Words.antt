@@ -1,0 +1,57 @@
+-- The stem of a word, and what a call on a word answers: document 01, "Numbers returned". Assumes nothing.
+use Prim.Native.Nat.{ℕ, _-_}
+use mathlib.Core.Bool.{Bool, true, false, cond, _&&_, _||_}
+use mathlib.Core.List.{List, [], _∷_, _++_}
+use lib.Dec.{eqb, leb, ltb}
+use lib.ListN.{length, replicate}
+use Rattle.paper.specs.Groups.{Group, Reading, done, outgrown, read}
+use Rattle.paper.specs.Shipped.{shipped}
+
+-- a word read by groups, in its own place
+unfoldable pub readWord : List Group → List ℕ → Reading
+readWord groups word = read (length word) groups false word
+
+-- the stem of a word: what the shipped rules leave of it
+unfoldable pub stem : List ℕ → Reading
+stem word = readWord shipped word
+
+-- "the stem stands first and spaces fill the rest"
+unfoldable pub placed : List ℕ → List ℕ → List ℕ
+placed word stem = stem ++ replicate (length word - length stem) 32
+
+-- "The word has 0 or more than 64 bytes"
+unfoldable pub wrongLength : List ℕ → Bool
+wrongLength word = eqb (length word) 0 || ltb 64 (length word)
+
+-- a byte from a to z
+abbrev pub small : ℕ → Bool
+small byte = leb 97 byte && leb byte 122
+
+-- how many bytes stand before the first that is outside a to z
+unfoldable pub firstOther : List ℕ → ℕ
+firstOther [] = 0
+firstOther (byte ∷ bytes) = cond (small byte) (ℕ.suc (firstOther bytes)) 0
+
+-- what a call gives: the number, what is returned besides it, and what the lent bytes are afterwards
+pub record Outcome : Type 0 where
+  pub number : ℕ
+  pub value : ℕ
+  pub place : List ℕ
+
+-- "Every refusal leaves all that was lent unchanged."
+abbrev pub refused : ℕ → List ℕ → Outcome
+refused number word = record { number = number; value = 0; place = word }
+
+unfoldable pub readingOutcome : List ℕ → Reading → Outcome
+readingOutcome word (done stem) = record { number = 0; value = length stem; place = placed word stem }
+readingOutcome word outgrown = refused 4 word
+
+-- a call on a word, whatever reads it: "1, 2, 4 for a word"
+unfoldable pub wordOutcome : (List ℕ → Reading) → List ℕ → Outcome
+wordOutcome reading word =
+    cond (wrongLength word) (refused 1 word)
+    (cond (ltb (firstOther word) (length word)) (refused 2 word) (readingOutcome word (reading word)))
+
+-- a call of the word stemmer
+unfoldable pub outcome : List ℕ → Outcome
+outcome word = wordOutcome stem word
