@@ -1,0 +1,2 @@
+-- Document 01, "The sheet".
+pub mod Nodes
