@@ -30,9 +30,9 @@ use Rattle.paper.specs.Groups.{
 
 -- ══ Two lists of letters are the same ══
 
-and-true : (a b : Bool) → (a && b) ≡ true → (a ≡ true) × (b ≡ true)
-and-true true b e = (refl, e)
-and-true false b e = (e, cc)
+pub and-both : (a b : Bool) → (a && b) ≡ true → (a ≡ true) × (b ≡ true)
+and-both true b e = (refl, e)
+and-both false b e = (e, cc)
 
 pub same-equal : (xs ys : List ℕ) → same xs ys ≡ true → xs ≡ ys
 unfolding same
@@ -40,7 +40,7 @@ same-equal [] [] e = refl
 same-equal [] (y ∷ ys) e = cc
 same-equal (x ∷ xs) [] e = cc
 same-equal (x ∷ xs) (y ∷ ys) e =
-    let both = and-true (eqb x y) (same xs ys) e in
+    let both = and-both (eqb x y) (same xs ys) e in
     let head : x ≡ y = eqb-true x y (both .0) in
     let tail : xs ≡ ys = same-equal xs ys (both .1) in
     cc

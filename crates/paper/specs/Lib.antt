@@ -8,4 +8,7 @@ pub mod Words
 pub mod Samples
 pub mod LettersLaws
 pub mod GroupsLaws
+pub mod ReadingLaws
+pub mod StepLaws
+pub mod LengthLaws
 pub mod WordsLaws

@@ -1,0 +1,295 @@
+-- Laws of how a group is read, over any rule list: which ending is chosen, and which rule is obeyed. Assumes nothing.
+use Prim.Native.Nat.{ℕ, suc, _-_, _≤_, max}
+use native.Mathlib.Omega.{arith}
+use mathlib.Core.Path.{_≡_, refl, ap, sym, subst, _∙_}
+use mathlib.Core.Bool.{Bool, true, false, cond, true≢false, _&&_, and-false}
+use mathlib.Core.List.{
+  List,
+  [],
+  _∷_,
+  _++_,
+  List·Memᴰ,
+  List·Memᴰ·head,
+  List·Memᴰ·tail,
+  List·Memᴰ·not-nil,
+  List·Memᴰ·cases-cons,
+  Memᴰ·append-right,
+}
+use mathlib.Core.Logic.{_⊎_, inl, inr, ⊎-elim}
+use mathlib.Core.Option.{Option, none, some}
+use lib.Dec.{eqb}
+use lib.ListN.{length, take}
+use borrow.Author.Tests.{eqb-true, eq-eqb, ne-eqb}
+use Rattle.paper.specs.Conditions.{holds}
+use Rattle.paper.specs.GroupsLaws.{and-both}
+use Rattle.paper.specs.Groups.{
+  Rule,
+  endsWith,
+  before,
+  which,
+  first,
+  fitting,
+  longest,
+  chosen,
+  obeyed,
+  Result,
+  resultOf,
+  readGroup,
+}
+
+-- ══ The rules that pass a test, and the first of them ══
+
+-- every rule of the list passes the test
+unfoldable pub every : (Rule → Bool) → List Rule → Bool
+every test [] = true
+every test (rule ∷ rules) = test rule && every test rules
+
+pub every-in :
+    (test : Rule → Bool) (rules : List Rule) {rule : Rule} → every test rules ≡ true → List·Memᴰ rule rules → test rule ≡ true
+unfolding every
+every-in test [] all m = absurd (List·Memᴰ·not-nil m)
+every-in test (one ∷ rules) all m =
+    let both = and-both (test one) (every test rules) all in
+    ⊎-elim (λ same. ap test same ∙ both .0) (λ later. every-in test rules (both .1) later) (List·Memᴰ·cases-cons m)
+
+-- no rule of the list passes the test
+pub data NonePass (test : Rule → Bool) : List Rule → Type 0 where
+  none-left : NonePass test []
+  one-more : {rule : Rule} {rules : List Rule} → test rule ≡ false → NonePass test rules → NonePass test (rule ∷ rules)
+
+pub which-in :
+    (test : Rule → Bool) (rules : List Rule) {rule : Rule}
+    → List·Memᴰ rule (which test rules)
+    → List·Memᴰ rule rules × (test rule ≡ true)
+unfolding which
+which-in test [] m = absurd (List·Memᴰ·not-nil m)
+which-in test (one ∷ rules) {rule} m = go (which-in test rules) (test one) refl m
+  where
+    go :
+        (List·Memᴰ rule (which test rules) → List·Memᴰ rule rules × (test rule ≡ true))
+        → (passes : Bool)
+        → test one ≡ passes
+        → List·Memᴰ rule (cond passes (one ∷ which test rules) (which test rules))
+        → List·Memᴰ rule (one ∷ rules) × (test rule ≡ true)
+    go rest true e here =
+        ⊎-elim (λ same. (List·Memᴰ·head same, ap test same ∙ e)) (λ later. (List·Memᴰ·tail (rest later .0), rest later .1))
+        (List·Memᴰ·cases-cons here)
+    go rest false e later = (List·Memᴰ·tail (rest later .0), rest later .1)
+
+pub in-which :
+    (test : Rule → Bool) (rules : List Rule) {rule : Rule}
+    → List·Memᴰ rule rules
+    → test rule ≡ true
+    → List·Memᴰ rule (which test rules)
+unfolding which
+in-which test [] m e = absurd (List·Memᴰ·not-nil m)
+in-which test (one ∷ rules) {rule} m e = go (in-which test rules) (test one) refl (List·Memᴰ·cases-cons m)
+  where
+    go :
+        (List·Memᴰ rule rules → test rule ≡ true → List·Memᴰ rule (which test rules))
+        → (passes : Bool)
+        → test one ≡ passes
+        → (rule ≡ one) ⊎ List·Memᴰ rule rules
+        → List·Memᴰ rule (cond passes (one ∷ which test rules) (which test rules))
+    go rest true p (inl same) = List·Memᴰ·head same
+    go rest true p (inr later) = List·Memᴰ·tail (rest later e)
+    go rest false p (inl same) = let clash : true ≡ false = sym e ∙ ap test same ∙ p in absurd (true≢false clash)
+    go rest false p (inr later) = rest later e
+
+-- of the rules that pass, `first` gives the one that stands first
+pub first-split :
+    (test : Rule → Bool) (rules : List Rule) (rule : Rule)
+    → first test rules ≡ some rule
+    → (earlier : List Rule)
+    × (later : List Rule)
+    × (rules ≡ earlier ++ rule ∷ later)
+    × NonePass test earlier
+    × (test rule ≡ true)
+unfolding first
+first-split test [] rule e = let clash : _≡_ {A = ℕ} 0 1 = cc in absurd (omega arith)
+first-split test (one ∷ rules) rule e = go (first-split test rules rule) (test one) refl e
+  where
+    go :
+        (first test rules ≡ some rule
+        → (earlier : List Rule)
+        × (later : List Rule)
+        × (rules ≡ earlier ++ rule ∷ later)
+        × NonePass test earlier
+        × (test rule ≡ true))
+        → (passes : Bool)
+        → test one ≡ passes
+        → cond passes (some one) (first test rules) ≡ some rule
+        → (earlier : List Rule)
+        × (later : List Rule)
+        × (one ∷ rules ≡ earlier ++ rule ∷ later)
+        × NonePass test earlier
+        × (test rule ≡ true)
+    go rest true p here =
+        let same : one ≡ rule = cc in
+        ([], rules, ap (λ (r : Rule). r ∷ rules) same, none-left, subst (λ (r : Rule). test r ≡ true) same p)
+    go rest false p later =
+        let found = rest later in
+        (one ∷ found .0, found .1, ap (λ (rs : List Rule). one ∷ rs) (found .2), one-more p (found .3), found .4)
+
+-- the first of those that pass another test, in one test
+pub first-which :
+    (test other : Rule → Bool) (rules : List Rule)
+    → first test (which other rules) ≡ first (λ rule. other rule && test rule) rules
+unfolding first which
+first-which test other [] = refl
+first-which test other (one ∷ rules) = go (first-which test other rules) (other one)
+  where
+    go :
+        first test (which other rules) ≡ first (λ rule. other rule && test rule) rules
+        → (passes : Bool)
+        → first test (cond passes (one ∷ which other rules) (which other rules))
+        ≡ cond (passes && test one) (some one) (first (λ rule. other rule && test rule) rules)
+    go rest true = ap (λ (r : Option Rule). cond (test one) (some one) r) rest
+    go rest false = rest
+
+-- ══ The ending chosen is the longest ══
+
+pub longest-of : (rules : List Rule) {rule : Rule} → List·Memᴰ rule rules → length (rule .ending) ≤ longest rules
+unfolding longest
+longest-of [] m = absurd (List·Memᴰ·not-nil m)
+longest-of (one ∷ rules) {rule} m =
+    ⊎-elim (λ same. let n : length (rule .ending) ≡ length (one .ending) = ap (λ (r : Rule). length (r .ending)) same in omega arith)
+    (λ later. let n = longest-of rules later in omega arith) (List·Memᴰ·cases-cons m)
+
+-- a rule that is chosen stands in the group, ends the word, and no ending of the group that ends the word is longer
+pub record Chosen (word : List ℕ) (rules : List Rule) (rule : Rule) : Type 0 where
+  pub stands : List·Memᴰ rule rules
+  pub ends : endsWith word (rule .ending) ≡ true
+  pub most : (other : Rule) → List·Memᴰ other rules → endsWith word (other .ending) ≡ true → length (other .ending) ≤ length (rule .ending)
+
+pub chosen-longest : (word : List ℕ) (rules : List Rule) {rule : Rule} → List·Memᴰ rule (chosen word rules) → Chosen word rules rule
+unfolding chosen fitting
+chosen-longest word rules {rule} m =
+    let picked = which-in (λ r. eqb (length (r .ending)) (longest (fitting word rules))) (fitting word rules) m in
+    let fits = which-in (λ r. endsWith word (r .ending)) rules (picked .0) in
+    let most-is : length (rule .ending) ≡ longest (fitting word rules) = eqb-true _ _ (picked .1) in
+    record {
+      stands = fits .0;
+      ends = fits .1;
+      most = λ other stands ends. let n = longest-of (fitting word rules) (in-which (λ r. endsWith word (r .ending)) rules stands ends) in omega arith;
+    }
+
+-- ══ Of the rules with that ending, the first that holds is obeyed ══
+
+-- the rule's condition, on the part before its ending
+abbrev pub applies : List ℕ → Rule → Bool
+applies word rule = holds (rule .condition) (before word (rule .ending))
+
+pub record Obeyed (word : List ℕ) (rules : List Rule) (rule : Rule) : Type 0 where
+  pub chosen-one : Chosen word rules rule
+  pub earlier : List Rule
+  pub later : List Rule
+  pub order : chosen word rules ≡ earlier ++ rule ∷ later
+  pub none-earlier : NonePass (applies word) earlier
+  pub its-own : applies word rule ≡ true
+
+pub obeyed-first : (word : List ℕ) (rules : List Rule) (rule : Rule) → obeyed word rules ≡ some rule → Obeyed word rules rule
+unfolding obeyed
+obeyed-first word rules rule e =
+    let split = first-split (applies word) (chosen word rules) rule e in
+    let in-chosen : List·Memᴰ rule (chosen word rules) = subst (λ (rs : List Rule). List·Memᴰ rule rs) (sym (split .2)) (Memᴰ·append-right (split .0) (List·Memᴰ·head refl)) in
+    record {
+      chosen-one = chosen-longest word rules in-chosen;
+      earlier = split .0;
+      later = split .1;
+      order = split .2;
+      none-earlier = split .3;
+      its-own = split .4;
+    }
+
+-- the same choice, as one test of each rule in turn
+unfoldable pub obeys : List ℕ → ℕ → Rule → Bool
+obeys word n rule = endsWith word (rule .ending) && (eqb (length (rule .ending)) n && applies word rule)
+
+pub obeyed-in-turn : (word : List ℕ) (rules : List Rule) → obeyed word rules ≡ first (obeys word (longest (fitting word rules))) rules
+unfolding obeyed chosen fitting obeys
+obeyed-in-turn word rules =
+    first-which (applies word) (λ rule. eqb (length (rule .ending)) (longest (fitting word rules))) (fitting word rules)
+    ∙ first-which _ (λ rule. endsWith word (rule .ending)) rules
+
+-- ══ Which rules need to be looked at ══
+
+-- rules that cannot end the word may be left out beforehand
+pub narrowed :
+    (word : List ℕ) (test : Rule → Bool) (rules : List Rule)
+    → ((rule : Rule) → List·Memᴰ rule rules → endsWith word (rule .ending) ≡ true → test rule ≡ true)
+    → fitting word (which test rules) ≡ fitting word rules
+unfolding fitting which
+narrowed word test [] needed = refl
+narrowed word test (one ∷ rules) needed = go (narrowed word test rules (λ rule m. needed rule (List·Memᴰ·tail m))) (test one) refl (endsWith word (one .ending)) refl
+  where
+    ends : Rule → Bool
+    ends rule = endsWith word (rule .ending)
+
+    go :
+        which ends (which test rules) ≡ which ends rules
+        → (passes : Bool)
+        → test one ≡ passes
+        → (fits : Bool)
+        → endsWith word (one .ending) ≡ fits
+        → which ends (cond passes (one ∷ which test rules) (which test rules)) ≡ cond fits (one ∷ which ends rules) (which ends rules)
+    go rest true p true e = rw (e, rest)
+    go rest true p false e = rw e rest
+    go rest false p true e = absurd (true≢false (sym (needed one (List·Memᴰ·head refl) e) ∙ p))
+    go rest false p false e = rest
+
+-- what is obeyed depends only on the rules whose S1 the word ends with
+pub same-fitting :
+    (word : List ℕ) (rules others : List Rule) → fitting word rules ≡ fitting word others → obeyed word rules ≡ obeyed word others
+unfolding obeyed chosen
+same-fitting word rules others e = rw e
+
+-- ══ One rule more, as a loop over the rules goes ══
+
+-- the longest ending so far, and the longest of this rule and those after it
+pub longest-more :
+    (word : List ℕ) (rule : Rule) (rules : List Rule) (most : ℕ)
+    → endsWith word (rule .ending) ≡ true
+    → most ≤ length (rule .ending)
+    → max (length (rule .ending)) (longest (fitting word rules)) ≡ max most (longest (fitting word (rule ∷ rules)))
+unfolding fitting which longest
+longest-more word rule rules most ends longer = rw ends (omega arith)
+
+pub longest-other :
+    (word : List ℕ) (rule : Rule) (rules : List Rule)
+    → endsWith word (rule .ending) ≡ false
+    → longest (fitting word rules) ≡ longest (fitting word (rule ∷ rules))
+unfolding fitting which longest
+longest-other word rule rules other = rw other
+
+pub longest-shorter :
+    (word : List ℕ) (rule : Rule) (rules : List Rule) (most : ℕ)
+    → length (rule .ending) ≤ most
+    → max most (longest (fitting word rules)) ≡ max most (longest (fitting word (rule ∷ rules)))
+unfolding fitting which longest
+longest-shorter word rule rules most shorter = go (endsWith word (rule .ending))
+  where
+    go :
+        (ends : Bool)
+        → max most (longest (fitting word rules))
+        ≡ max most (longest (cond ends (rule ∷ fitting word rules) (fitting word rules)))
+    go true = omega arith
+    go false = refl
+
+-- what one test of a rule comes to
+pub obeys-size :
+    (word : List ℕ) (n : ℕ) (rule : Rule) → (length (rule .ending) ≡ n → ⊥) → obeys word n rule ≡ false
+unfolding obeys
+obeys-size word n rule other = rw (ne-eqb (length (rule .ending)) n other) (and-false (endsWith word (rule .ending)))
+
+pub obeys-ends : (word : List ℕ) (n : ℕ) (rule : Rule) → endsWith word (rule .ending) ≡ false → obeys word n rule ≡ false
+unfolding obeys
+obeys-ends word n rule other = rw other
+
+pub obeys-holds :
+    (word : List ℕ) (n : ℕ) (rule : Rule)
+    → length (rule .ending) ≡ n
+    → endsWith word (rule .ending) ≡ true
+    → obeys word n rule ≡ holds (rule .condition) (take (length word - n) word)
+unfolding obeys before
+obeys-holds word n rule size ends = rw (ends, eq-eqb (length (rule .ending)) n size, size)

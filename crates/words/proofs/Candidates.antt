@@ -1,0 +1,220 @@
+-- The index by group and last letter holds, for every word, all the rules of the group that can end it. Assumes nothing.
+use Prim.Native.Nat.{ℕ, zero, suc, _+_, _-_, _*_, _≤_, _<_}
+use native.Mathlib.Nat.{not-suc-le-zero, le-of-suc-le-suc}
+use native.Mathlib.Numerals.{add-one}
+use native.Mathlib.Omega.{arith}
+use mathlib.Core.Path.{_≡_, refl, ap, sym, _∙_}
+use mathlib.Core.Bool.{Bool, true, false, cond, _&&_, _||_}
+use mathlib.Core.List.{List, [], _∷_, _++_, map, reverse, append-assoc, reverse-append}
+use lib.Dec.{eqb, eqb·suc-zero}
+use mathlib.Core.Option.{Option}
+use lib.ListN.{length, take, drop, getD, length-append, length-reverse, List·getD-append}
+use lib.Seq.{getD-append-add, getD-at}
+use borrow.Author.Tests.{eq-eqb}
+use Rattle.paper.specs.Letters.{letters, letterAt, inward}
+use Rattle.paper.specs.Groups.{Rule, Group, endsWith, before, which, first, fitting, longest, obeyed}
+use Rattle.paper.specs.GroupsLaws.{and-both, ends-split}
+use Rattle.paper.specs.ReadingLaws.{every, every-in, narrowed, same-fitting, obeys, obeyed-in-turn}
+use Rattle.paper.specs.Words.{small}
+use Rattle.paper.specs.Shipped.{
+  rule,
+  opening,
+  single,
+  group-1a,
+  group-1b,
+  follow-up,
+  group-1c,
+  group-2,
+  group-3,
+  group-4,
+  group-5a,
+  group-5b,
+  shipped,
+}
+use Rattle.words.proofs.Joined.{starts-length, between}
+use Rattle.words.specs.Tables.{rulesOf, rules, noRule, ruleAt, may, numbers, byLetter, byGroup, candidates, candidateNumbers, candidateStarts, noGroup, groupRules, AllBelow, Column}
+
+pub below-at : (n : ℕ) (ks : List ℕ) (i : ℕ) → AllBelow n ks → i < length ks → getD ks i 0 < n
+below-at n [] i b h = absurd (not-suc-le-zero h)
+below-at n (k ∷ ks) zero b h = b .0
+below-at n (k ∷ ks) (suc i) b h = below-at n ks i (b .1) (le-of-suc-le-suc h)
+
+numbers-below : (test : Rule → Bool) (n from : ℕ) (group : List Rule) → from + length group ≤ n → AllBelow n (numbers test from group)
+unfolding numbers
+numbers-below test n from [] h = tt
+numbers-below test n from (one ∷ group) h = go (numbers-below test n (suc from) group (omega arith)) (test one)
+  where
+    go : AllBelow n (numbers test (suc from) group) → (passes : Bool) → AllBelow n (cond passes (from ∷ numbers test (suc from) group) (numbers test (suc from) group))
+    go rest true = (omega arith, rest)
+    go rest false = rest
+
+-- numbered from where the group stands among the rules, they name its rules
+numbers-name :
+    (test : Rule → Bool) (earlier group later : List Rule)
+    → earlier ++ (group ++ later) ≡ rules
+    → map ruleAt (numbers test (length earlier) group) ≡ which test group
+unfolding numbers which ruleAt
+numbers-name test earlier [] later e = refl
+numbers-name test earlier (one ∷ group) later e =
+    let count : length (earlier ++ one ∷ []) ≡ suc (length earlier) = length-append earlier (one ∷ []) ∙ omega arith in
+    let rest = numbers-name test (earlier ++ one ∷ []) group later (append-assoc earlier (one ∷ []) (group ++ later) ∙ e) in
+    let named : getD rules (length earlier) noRule ≡ one =
+    ap (λ (rs : List Rule). getD rs (length earlier) noRule) (sym e) ∙ getD-at earlier one (group ++ later) noRule (length earlier) refl in
+    go (numbers test (suc (length earlier)) group) (rw count at rest) named (test one)
+  where
+    go :
+        (later-numbers : List ℕ)
+        → map ruleAt later-numbers ≡ which test group
+        → ruleAt (length earlier) ≡ one
+        → (passes : Bool)
+        → map ruleAt (cond passes (length earlier ∷ later-numbers) later-numbers) ≡ cond passes (one ∷ which test group) (which test group)
+    go later-numbers rest named true = cc
+    go later-numbers rest named false = rest
+
+-- ══ The blocks of the index ══
+
+byLetter-length : (letter n from : ℕ) (group : List Rule) → length (byLetter letter n from group) ≡ n
+unfolding byLetter
+byLetter-length letter zero from group = refl
+byLetter-length letter (suc n) from group = ap suc (byLetter-length (suc letter) n from group)
+
+byLetter-at :
+    (letter n from c : ℕ) (group : List Rule)
+    → c < n
+    → getD (byLetter letter n from group) c [] ≡ numbers (may (letter + c)) from group
+unfolding byLetter
+byLetter-at letter zero from c group h = absurd (not-suc-le-zero h)
+byLetter-at letter (suc n) from zero group h =
+    let same : letter ≡ letter + 0 = omega arith in ap (λ (l : ℕ). numbers (may l) from group) same
+byLetter-at letter (suc n) from (suc c) group h =
+    let same : suc letter + c ≡ letter + suc c = omega arith in
+    byLetter-at (suc letter) n from c group (le-of-suc-le-suc h) ∙ ap (λ (l : ℕ). numbers (may l) from group) same
+
+-- a block names the rules of its group that may have its letter last, and holds numbers of rules only
+pub record Block (numbers-of : List ℕ) (letter : ℕ) (group : List Rule) : Type 0 where
+  pub names : map ruleAt numbers-of ≡ which (may letter) group
+  pub known : AllBelow (length rules) numbers-of
+
+byGroup-at :
+    (earlier : List Rule) (groups : List Group) (g c : ℕ)
+    → earlier ++ rulesOf groups ≡ rules
+    → g < length groups
+    → c < 26
+    → Block (getD (byGroup (length earlier) groups) (26 * g + c) []) (97 + c) (getD groups g noGroup .rules)
+unfolding byGroup rulesOf
+byGroup-at earlier [] g c e h k = absurd (not-suc-le-zero h)
+byGroup-at earlier (group ∷ groups) zero c e h k =
+    let size = byLetter-length 97 26 (length earlier) (group .rules) in
+    let here : 26 * 0 + c ≡ c = omega arith in
+    let fits : length earlier + length (group .rules) ≤ length rules = rw (← e) (omega (arith, length-append earlier (group .rules ++ rulesOf groups), length-append (group .rules) (rulesOf groups))) in
+    rw (here, List·getD-append (byLetter 97 26 (length earlier) (group .rules)) (byGroup (length earlier + length (group .rules)) groups) [] c (omega arith), byLetter-at 97 26 (length earlier) c (group .rules) k)
+    (record { names = numbers-name (may (97 + c)) earlier (group .rules) (rulesOf groups) e; known = numbers-below (may (97 + c)) (length rules) (length earlier) (group .rules) fits })
+byGroup-at earlier (group ∷ groups) (suc g) c e h k =
+    let blocks = byLetter 97 26 (length earlier) (group .rules) in
+    let size = byLetter-length 97 26 (length earlier) (group .rules) in
+    let place : 26 * suc g + c ≡ length blocks + (26 * g + c) = omega arith in
+    let more : length (earlier ++ group .rules) ≡ length earlier + length (group .rules) = length-append earlier (group .rules) in
+    let rest = byGroup-at (earlier ++ group .rules) groups g c (append-assoc earlier (group .rules) (rulesOf groups) ∙ e) (le-of-suc-le-suc h) k in
+    rw (place, getD-append-add blocks (byGroup (length earlier + length (group .rules)) groups) (26 * g + c) [], ← more) rest
+
+pub block-at : (g c : ℕ) → g < 9 → c < 26 → Block (getD candidates (26 * g + c) []) (97 + c) (groupRules g)
+unfolding candidates rules groupRules shipped
+block-at g c h k = byGroup-at [] shipped g c refl h k
+
+-- ══ A word's last letter tells which rules may end it ══
+
+last-letter : (part s1 : List ℕ) → 0 < length s1 → letterAt 0 (part ++ s1) ≡ letterAt 0 s1
+unfolding letterAt inward
+last-letter part s1 h = rw (reverse-append part s1) (List·getD-append (reverse s1) (reverse part) 0 0 (rw length-reverse h))
+
+-- every ending is empty or has a small letter last
+tidy : Rule → Bool
+tidy rule = eqb (length (rule .ending)) 0 || small (letterAt 0 (rule .ending))
+
+groups-tidy : List Group → Bool
+groups-tidy [] = true
+groups-tidy (group ∷ groups) = every tidy (group .rules) && groups-tidy groups
+
+tidy-at : (g : ℕ) (groups : List Group) → groups-tidy groups ≡ true → every tidy (getD groups g noGroup .rules) ≡ true
+unfolding groups-tidy every noGroup
+tidy-at g [] t = refl
+tidy-at zero (group ∷ groups) t = and-both (every tidy (group .rules)) (groups-tidy groups) t .0
+tidy-at (suc g) (group ∷ groups) t = tidy-at g groups (and-both (every tidy (group .rules)) (groups-tidy groups) t .1)
+
+shipped-tidy : groups-tidy shipped ≡ true
+unfolding groups-tidy every tidy letterAt inward letters rule opening single group-1a group-1b follow-up group-1c group-2 group-3 group-4
+    group-5a group-5b shipped
+shipped-tidy = refl
+
+ends-may : (word : List ℕ) (c : ℕ) (one : Rule) → Column word c → tidy one ≡ true → endsWith word (one .ending) ≡ true → may (97 + c) one ≡ true
+unfolding may tidy
+ends-may word c one column t e = go (one .ending) t (ends-split word (one .ending) e)
+  where
+    go :
+        (s1 : List ℕ)
+        → (eqb (length s1) 0 || small (letterAt 0 s1)) ≡ true
+        → before word (one .ending) ++ s1 ≡ word
+        → (eqb (length s1) 0 || eqb (letterAt 0 s1) (97 + c)) ≡ true
+    go [] t split = refl
+    go (letter ∷ s1) t split =
+        let filled : eqb (length (letter ∷ s1)) 0 ≡ false = eqb·suc-zero (length s1) in
+        let last : letterAt 0 word ≡ letterAt 0 (letter ∷ s1) = ap (letterAt 0) (sym split) ∙ last-letter (before word (one .ending)) (letter ∷ s1) (omega arith) in
+        let here : 97 + c ≡ letterAt 0 word = column .1 (ap small last ∙ (rw filled at t)) in
+        rw filled (eq-eqb (letterAt 0 (letter ∷ s1)) (97 + c) (cc))
+
+-- so a group may be read by its block alone
+pub by-block :
+    (word : List ℕ) (g c : ℕ) (block : List ℕ)
+    → Column word c
+    → Block block (97 + c) (groupRules g)
+    → obeyed word (map ruleAt block) ≡ obeyed word (groupRules g)
+unfolding groupRules
+by-block word g c block column b =
+    ap (obeyed word) (b .names)
+    ∙ same-fitting word (which (may (97 + c)) (groupRules g)) (groupRules g)
+    (narrowed word (may (97 + c)) (groupRules g)
+    (λ one m e. ends-may word c one column (every-in tidy (groupRules g) (tidy-at g shipped shipped-tidy) m) e))
+
+-- ══ The index as the functions are lent it ══
+
+block-count : length candidates ≡ 234
+unfolding candidates byGroup byLetter shipped
+block-count = refl
+
+-- the part of the index for a group and a column
+abbrev pub few : List ℕ → List ℕ → ℕ → List ℕ
+few numbers-of places k = take (getD places (k + 1) 0 - getD places k 0) (drop (getD places k 0) numbers-of)
+
+pub record Indexed (numbers-of places : List ℕ) (g c : ℕ) : Type 0 where
+  pub known : 26 * g + c + 1 < length places
+  pub rising : getD places (26 * g + c) 0 ≤ getD places (26 * g + c + 1) 0
+  pub within : getD places (26 * g + c + 1) 0 ≤ length numbers-of
+  pub block : Block (few numbers-of places (26 * g + c)) (97 + c) (groupRules g)
+
+pub indexed :
+    (numbers-of places : List ℕ) (g c : ℕ)
+    → numbers-of ≡ candidateNumbers
+    → places ≡ candidateStarts
+    → g < 9
+    → c < 26
+    → Indexed numbers-of places g c
+unfolding candidateNumbers candidateStarts
+indexed numbers-of places g c numbers-are places-are h k =
+    let here = between candidates (26 * g + c) (omega (arith, block-count)) in
+    rw (numbers-are, places-are)
+    (record {
+      known = omega (arith, starts-length 0 candidates, block-count);
+      rising = omega (arith, here .size);
+      within = here .within;
+      block = rw (here .part) (block-at g c h k);
+    })
+
+-- the rule obeyed among the few is the rule obeyed in the group
+pub few-obeyed :
+    (word numbers-of : List ℕ) (g c : ℕ) (choice : Option Rule)
+    → Column word c
+    → Block numbers-of (97 + c) (groupRules g)
+    → choice ≡ first (obeys word (longest (fitting word (map ruleAt numbers-of)))) (map ruleAt numbers-of)
+    → choice ≡ obeyed word (groupRules g)
+few-obeyed word numbers-of g c choice column b e =
+    e ∙ sym (obeyed-in-turn word (map ruleAt numbers-of)) ∙ by-block word g c numbers-of column b

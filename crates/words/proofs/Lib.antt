@@ -1,0 +1,6 @@
+-- What the proofs of this crate share.
+pub mod Joined
+pub mod Candidates
+pub mod Columns
+pub mod Turns
+pub mod Outcomes

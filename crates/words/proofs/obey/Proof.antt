@@ -1,0 +1,89 @@
+-- `words::obey` meets its contract. Assumes nothing.
+use Prim.Native.Nat.{ℕ, _+_, _-_, _≤_}
+use borrow.Author.Needs.{needs}
+use native.Mathlib.Omega.{arith}
+use mathlib.Core.Path.{_≡_, refl, sym, ap, _∙_}
+use mathlib.Core.Bool.{true, false, true≢false}
+use mathlib.Core.List.{List, [], _++_}
+use lib.Dec.{eqb}
+use lib.ListN.{length, take}
+use lib.Seq.{length-take-le, take-take}
+use Rattle.paper.specs.Groups.{Action, replace, single-letter, act}
+use Rattle.words.specs.Tables.{ruleAt, written, isSingle, replacementLetters, replacementStarts}
+use Rattle.words.proofs.obey.Statement.{statement}
+use Rattle.words.proofs.obey.Tie as tie
+
+act-single :
+    (action : Action) (word : List ℕ) (part : ℕ)
+    → eqb (isSingle action) 1 ≡ true
+    → part ≤ length word
+    → act action (take part word) ≡ take (part - 1) word
+unfolding act
+act-single (replace s2) word part e fits = absurd (true≢false (sym e))
+act-single single-letter word part e fits = rw (length-take-le part word fits) (take-take (part - 1) part word (omega arith))
+
+act-replace : (action : Action) (part : List ℕ) → eqb (isSingle action) 1 ≡ false → act action part ≡ part ++ written action
+unfolding act
+act-replace (replace s2) part e = refl
+act-replace single-letter part e = absurd (true≢false e)
+
+opens-requires : tie.Need-opens-requires
+opens-requires c κs = search needs
+
+single-requires : tie.Need-single-requires
+single-requires c κs = search needs
+
+returns : tie.Need-returns
+returns c =
+    let s = c .before .before .before .before .before in
+    let action = ruleAt (s .args .rule) .action in
+    let one = act-single action (s .args .word .now) (s .args .part) (sym (c .before .before .single .ensures) ∙ c .before .if1 .taken) (s .pre .0 .1) in
+    let none : s .args .part - 1 ≡ 0 = omega arith in
+    (sym (one ∙ ap (λ (k : ℕ). take k (s .args .word .now)) none), (omega arith, c .before .before .before .opens .ensures))
+
+sub-t10 : tie.Need-sub-t10
+sub-t10 c = search needs
+
+returns-2 : tie.Need-returns-2
+returns-2 c =
+    let s = c .before .before .before .before .before in
+    let action = ruleAt (s .args .rule) .action in
+    let one = act-single action (s .args .word .now) (s .args .part) (sym (c .before .before .single .ensures) ∙ c .before .if1 .taken) (s .pre .0 .1) in
+    (sym one, (omega arith, c .before .before .before .opens .ensures))
+
+slice-aggregate-replace : tie.Need-slice-aggregate-replace
+slice-aggregate-replace c = search needs
+
+slice-aggregate-replace-2 : tie.Need-slice-aggregate-replace-2
+slice-aggregate-replace-2 c = search needs
+
+replace-requires : tie.Need-replace-requires
+unfolding replacementLetters replacementStarts
+replace-requires c κs =
+    let s = c .before .before .before .before .before .before .before in
+    ((s .pre .0 .0, (refl, refl)), s .pre .1)
+
+same-length : tie.Need-same-length
+same-length c = search needs
+
+returns-3 : tie.Need-returns-3
+returns-3 c =
+    let s = c .before .before .before .before .before .before .before .before .before .before in
+    let action = ruleAt (s .args .rule) .action in
+    let two = act-replace action (take (s .args .part) (s .args .word .now)) (sym (c .before .before .before .before .before .before .before .single .ensures) ∙ c .before .before .before .before .before .before .if1 .left) in
+    (c .before .before .replace .ensures .0 ∙ sym two, (c .before .before .replace .ensures .1, c .before .before .before .before .before .before .before .before .opens .ensures))
+
+pub obey-spec : {M : Type 1} → statement M
+obey-spec =
+    tie.close
+    (tie.spec
+    opens-requires
+    single-requires
+    returns
+    sub-t10
+    returns-2
+    slice-aggregate-replace
+    slice-aggregate-replace-2
+    replace-requires
+    same-length
+    returns-3)

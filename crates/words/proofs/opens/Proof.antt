@@ -1,0 +1,17 @@
+-- `words::opens` meets its contract: its table is the column of the list. Assumes nothing.
+use borrow.Author.Needs.{needs}
+use mathlib.Core.Path.{_≡_, ap}
+use Rattle.words.specs.Tables.{openings}
+use Rattle.words.proofs.Columns.{opens-at}
+use Rattle.words.proofs.opens.Statement.{statement}
+use Rattle.words.proofs.opens.Tie as tie
+
+array-read-result : tie.Need-array-read-result
+array-read-result c = search needs
+
+returns : tie.Need-returns
+unfolding openings
+returns c = opens-at (c .args .rule)
+
+pub opens-spec : {M : Type 1} → statement M
+opens-spec = tie.close (tie.spec array-read-result returns)

@@ -1,0 +1,156 @@
+-- The shipped rules column by column, computed from the list in `paper`: what the constant tables of `words` hold. Assumes
+-- nothing.
+use Prim.Native.Nat.{ℕ, zero, suc, _+_, _<_}
+use mathlib.Core.Path.{_≡_}
+use mathlib.Core.Bool.{Bool, true, false, cond, _||_}
+use mathlib.Core.List.{List, [], _∷_, _++_, map}
+use mathlib.Core.Option.{Option, none, some}
+use lib.Dec.{eqb, ltb}
+use lib.ListN.{length, getD}
+use Rattle.paper.specs.Letters.{letters, letterAt, inward}
+use Rattle.paper.specs.Groups.{Action, replace, single-letter, Rule, Gate, always, if-opened, Group}
+use Rattle.paper.specs.Words.{small}
+use Rattle.paper.specs.Shipped.{
+  rule,
+  opening,
+  single,
+  group-1a,
+  group-1b,
+  follow-up,
+  group-1c,
+  group-2,
+  group-3,
+  group-4,
+  group-5a,
+  group-5b,
+  shipped,
+}
+
+-- lists one after the other, and where each starts, with the end of the last
+unfoldable pub joined : List (List ℕ) → List ℕ
+joined [] = []
+joined (list ∷ lists) = list ++ joined lists
+
+unfoldable pub starts : ℕ → List (List ℕ) → List ℕ
+starts from [] = from ∷ []
+starts from (list ∷ lists) = from ∷ starts (from + length list) lists
+
+-- the rules of all groups in their order
+unfoldable pub rulesOf : List Group → List Rule
+rulesOf [] = []
+rulesOf (group ∷ groups) = group .rules ++ rulesOf groups
+
+-- (what a definition of this file names on its `unfolding` line opens with it, so that it can be held against a table)
+unfoldable pub rules : List Rule
+unfolding rulesOf letters rule opening single group-1a group-1b follow-up group-1c group-2 group-3 group-4 group-5a group-5b shipped
+rules = rulesOf shipped
+
+-- the rules of the group of this number, counted from 0
+unfoldable pub noGroup : Group
+noGroup = record { gate = always; rules = [] }
+
+unfoldable pub groupRules : ℕ → List Rule
+groupRules number = getD shipped number noGroup .rules
+
+-- the rule of a number, counted from 0
+abbrev pub noRule : Rule
+noRule = record { condition = 0; ending = []; action = replace []; opens = false }
+
+unfoldable pub ruleAt : ℕ → Rule
+ruleAt number = getD rules number noRule
+
+-- a number below 62 names a rule, any other none
+unfoldable pub picked : ℕ → Option Rule
+picked number = cond (ltb number 62) (some (ruleAt number)) none
+
+abbrev pub written : Action → List ℕ
+written (replace s2) = s2
+written single-letter = []
+
+abbrev pub isSingle : Action → ℕ
+isSingle (replace s2) = 0
+isSingle single-letter = 1
+
+abbrev pub gateNumber : Gate → ℕ
+gateNumber always = 0
+gateNumber if-opened = 1
+
+unfoldable pub endings : List (List ℕ)
+unfolding rules
+endings = map (λ rule. rule .ending) rules
+
+unfoldable pub endingLetters : List ℕ
+unfolding joined endings
+endingLetters = joined endings
+
+unfoldable pub endingStarts : List ℕ
+unfolding starts endings
+endingStarts = starts 0 endings
+
+unfoldable pub replacements : List (List ℕ)
+unfolding rules
+replacements = map (λ rule. written (rule .action)) rules
+
+unfoldable pub replacementLetters : List ℕ
+unfolding joined replacements
+replacementLetters = joined replacements
+
+unfoldable pub replacementStarts : List ℕ
+unfolding starts replacements
+replacementStarts = starts 0 replacements
+
+unfoldable pub conditionNumbers : List ℕ
+unfolding rules
+conditionNumbers = map (λ rule. rule .condition) rules
+
+unfoldable pub singles : List ℕ
+unfolding rules
+singles = map (λ rule. isSingle (rule .action)) rules
+
+unfoldable pub openings : List ℕ
+unfolding rules
+openings = map (λ rule. cond (rule .opens) 1 0) rules
+
+unfoldable pub gates : List ℕ
+unfolding letters rule opening single group-1a group-1b follow-up group-1c group-2 group-3 group-4 group-5a group-5b shipped
+gates = map (λ group. gateNumber (group .gate)) shipped
+
+-- a word whose last letter is this one may end with the rule's ending
+unfoldable pub may : ℕ → Rule → Bool
+may letter rule = eqb (length (rule .ending)) 0 || eqb (letterAt 0 (rule .ending)) letter
+
+-- the numbers of the rules that pass a test, where the first has this number
+unfoldable pub numbers : (Rule → Bool) → ℕ → List Rule → List ℕ
+numbers test from [] = []
+numbers test from (rule ∷ rest) = cond (test rule) (from ∷ numbers test (suc from) rest) (numbers test (suc from) rest)
+
+-- for each letter from this one on, so many of them, the rules of a group that a word with this last letter may obey
+unfoldable pub byLetter : ℕ → ℕ → ℕ → List Rule → List (List ℕ)
+byLetter letter zero from group = []
+byLetter letter (suc more) from group = numbers (may letter) from group ∷ byLetter (suc letter) more from group
+
+-- the same for each group in turn
+unfoldable pub byGroup : ℕ → List Group → List (List ℕ)
+byGroup from [] = []
+byGroup from (group ∷ groups) = byLetter 97 26 from (group .rules) ++ byGroup (from + length (group .rules)) groups
+
+unfoldable pub candidates : List (List ℕ)
+unfolding byGroup byLetter numbers may letterAt inward letters rule opening single group-1a group-1b follow-up group-1c group-2 group-3 group-4 group-5a group-5b shipped
+candidates = byGroup 0 shipped
+
+unfoldable pub candidateNumbers : List ℕ
+unfolding joined candidates
+candidateNumbers = joined candidates
+
+unfoldable pub candidateStarts : List ℕ
+unfolding starts candidates
+candidateStarts = starts 0 candidates
+
+-- every number of the list is below n
+abbrev pub AllBelow : ℕ → List ℕ → Type 0
+AllBelow n [] = Unit {0}
+AllBelow n (k ∷ ks) = (k < n) × AllBelow n ks
+
+-- c is the column of a word: where its last byte is a small letter, that letter's
+abbrev pub Column : List ℕ → ℕ → Type 0
+Column word c = (c < 26) × (small (letterAt 0 word) ≡ true → 97 + c ≡ letterAt 0 word)

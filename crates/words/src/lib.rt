@@ -1,0 +1,375 @@
+// The word stemmer: reads the shipped rules group by group from constant tables, in the word's own place.
+mod rules;
+
+use rules::CANDIDATE_STARTS;
+use rules::CANDIDATES;
+use rules::CONDITIONS;
+use rules::ENDING_STARTS;
+use rules::ENDINGS;
+use rules::GATES;
+use rules::OPENS;
+use rules::REPLACEMENT_STARTS;
+use rules::REPLACEMENTS;
+use rules::SINGLE;
+ghost use mathlib.Core.Path.{_≡_};
+ghost use mathlib.Core.Bool.{Bool, true, false, cond};
+ghost use mathlib.Core.List.{List, _++_, map};
+ghost use Prim.Native.Nat.{ℕ, _+_, _-_, _*_, _<_, _≤_};
+ghost use lib.Dec.{eqb};
+ghost use lib.ListN.{length, take, drop, replicate};
+ghost use lib.Seq.{paste};
+ghost use Rattle.paper.specs.Groups.{done, endsWith, act, first, fitting, longest as longestOf, obeyed as obeyedOf, readGroup};
+ghost use Rattle.paper.specs.Words.{stem as stemOf};
+ghost use Rattle.paper.specs.ReadingLaws.{obeys};
+ghost use Rattle.words.specs.Answer.{numberOf, valueOf, Gives};
+ghost use Rattle.words.specs.Tables.{AllBelow, Column, ruleAt, picked, written, isSingle, groupRules, replacementLetters, replacementStarts, endingLetters, endingStarts, conditionNumbers, candidateNumbers, candidateStarts, gates as gateNumbers};
+
+pub enum Stemmed {
+    // 0: done, with the length of the stem.
+    Done(usize),
+    // 1: the word has 0 or more than 64 bytes.
+    WrongLength,
+    // 2: a byte of the word is outside a to z.
+    OtherByte,
+    // 4: some group's result is longer than the word's place. The shipped rules never give it.
+    Outgrown,
+}
+
+fn wide(number: u8) -> usize
+    ensures { λ r. ⌜ r ≡ number ⌝ }
+{
+    number as usize
+}
+
+// How many letters the ending of a rule has.
+fn size(rule: usize, starts: &[u8]) -> usize
+    requires { ⌜ (rule < 62) × (now starts ≡ endingStarts) ⌝ }
+    ensures { λ r. ⌜ r ≡ length (ruleAt rule .ending) ⌝ }
+{
+    wide(starts[rule + 1]) - wide(starts[rule])
+}
+
+// Whether the word ends with the ending of a rule.
+fn ends(word: &[u8], rule: usize, endings: &[u8], starts: &[u8]) -> bool
+    requires { ⌜ (rule < 62) × ((now endings ≡ endingLetters) × (now starts ≡ endingStarts)) ⌝ }
+    ensures { λ r. ⌜ r ≡ endsWith (now (word .entry)) (ruleAt rule .ending) ⌝ }
+{
+    let from = wide(starts[rule]);
+    let to = wide(starts[rule + 1]);
+    letters::ends_with(word, &endings[from..to])
+}
+
+// The length of the longest ending of these rules that the word ends with.
+fn longest(word: &[u8], candidates: &[u8], endings: &[u8], starts: &[u8]) -> usize
+    requires { ⌜ AllBelow 62 (now candidates) × ((now endings ≡ endingLetters) × (now starts ≡ endingStarts)) ⌝ }
+    ensures { λ r. ⌜ r ≡ longestOf (fitting (now (word .entry)) (map ruleAt (now (candidates .entry)))) ⌝ }
+{
+    let mut most = 0;
+    let mut i = 0;
+    while i < candidates.len() {
+        let rule = wide(candidates[i]);
+        let n = size(rule, starts);
+        if most < n {
+            if ends(word, rule, endings, starts) {
+                most = n;
+            }
+        }
+        i += 1;
+    }
+    most
+}
+
+// Whether a rule's ending has so many letters and ends the word, and its condition holds of the part before it.
+fn passes(
+    word: &[u8],
+    n: usize,
+    rule: usize,
+    endings: &[u8],
+    starts: &[u8],
+    conditions: &[u8],
+) -> bool
+    requires { ⌜ (rule < 62) × ((now endings ≡ endingLetters) × ((now starts ≡ endingStarts) × (now conditions ≡ conditionNumbers))) ⌝ }
+    ensures { λ r. ⌜ r ≡ obeys (now (word .entry)) n (ruleAt rule) ⌝ }
+{
+    if size(rule, starts) != n {
+        return false;
+    }
+    if !ends(word, rule, endings, starts) {
+        return false;
+    }
+    let part = word.len() - n;
+    letters::holds(conditions[rule], &word[..part])
+}
+
+// The first of these rules that passes; 62 for none.
+fn obeyed(
+    word: &[u8],
+    n: usize,
+    candidates: &[u8],
+    endings: &[u8],
+    starts: &[u8],
+    conditions: &[u8],
+) -> usize
+    requires { ⌜ AllBelow 62 (now candidates) ⌝ }
+    requires { ⌜ (now endings ≡ endingLetters) × ((now starts ≡ endingStarts) × (now conditions ≡ conditionNumbers)) ⌝ }
+    ensures { λ r. ⌜ picked r ≡ first (obeys (now (word .entry)) n) (map ruleAt (now (candidates .entry))) ⌝ }
+    ensures { λ r. ⌜ r ≤ 62 ⌝ }
+{
+    let mut i = 0;
+    while i < candidates.len() {
+        let rule = wide(candidates[i]);
+        if passes(word, n, rule, endings, starts, conditions) {
+            return rule;
+        }
+        i += 1;
+    }
+    62
+}
+
+// The column of the index for a word: that of its last letter.
+fn column(word: &[u8]) -> usize
+    ensures { λ r. ⌜ Column (now (word .entry)) r ⌝ }
+{
+    let n = word.len();
+    if n == 0 {
+        return 0;
+    }
+    let last = word[n - 1];
+    if last < 97 {
+        return 0;
+    }
+    if 122 < last {
+        return 0;
+    }
+    wide(last - 97)
+}
+
+// The rule of a group that the word obeys; 62 for none.
+fn choose(
+    word: &[u8],
+    group: usize,
+    candidates: &[u8],
+    blocks: &[u8],
+    endings: &[u8],
+    starts: &[u8],
+    conditions: &[u8],
+) -> usize
+    requires { ⌜ (group < 9) × ((now candidates ≡ candidateNumbers) × (now blocks ≡ candidateStarts)) ⌝ }
+    requires { ⌜ (now endings ≡ endingLetters) × ((now starts ≡ endingStarts) × (now conditions ≡ conditionNumbers)) ⌝ }
+    ensures { λ r. ⌜ picked r ≡ obeyedOf (now (word .entry)) (groupRules group) ⌝ }
+    ensures { λ r. ⌜ r ≤ 62 ⌝ }
+{
+    let at = 26 * group + column(word);
+    let from = wide(blocks[at]);
+    let to = wide(blocks[at + 1]);
+    if from == to {
+        return 62;
+    }
+    let few = &candidates[from..to];
+    let n = longest(word, few, endings, starts);
+    obeyed(word, n, few, endings, starts, conditions)
+}
+
+// Whether a rule leaves a single letter of two.
+fn single(rule: usize) -> bool
+    requires { ⌜ rule < 62 ⌝ }
+    ensures { λ r. ⌜ r ≡ eqb (isSingle (ruleAt rule .action)) 1 ⌝ }
+{
+    SINGLE[rule] == 1
+}
+
+// Whether a rule opens the next group.
+fn opens(rule: usize) -> bool
+    requires { ⌜ rule < 62 ⌝ }
+    ensures { λ r. ⌜ r ≡ ruleAt rule .opens ⌝ }
+{
+    OPENS[rule] == 1
+}
+
+// Writes letters into the word at a place.
+fn put(word: &mut [u8], at: usize, letters: &[u8])
+    requires { ⌜ at + length (now letters) ≤ length (now word) ⌝ }
+    ensures { λ _. ⌜ now (word .exit) ≡ paste (now (word .entry)) at (now (letters .entry)) (length (now (letters .entry))) ⌝ }
+{
+    let mut i = 0;
+    while i < letters.len() {
+        word[at + i] = letters[i];
+        i += 1;
+    }
+}
+
+// Writes the replacement of a rule behind the part, and returns how many letters stand there then.
+fn replace(word: &mut [u8], part: usize, rule: usize, replacements: &[u8], starts: &[u8]) -> usize
+    requires { ⌜ (rule < 62) × ((now replacements ≡ replacementLetters) × (now starts ≡ replacementStarts)) ⌝ }
+    requires { ⌜ part + length (written (ruleAt rule .action)) ≤ length (now word) ⌝ }
+    ensures { λ r. ⌜ take r (now (word .exit)) ≡ take part (now (word .entry)) ++ written (ruleAt rule .action) ⌝ }
+    ensures { λ r. ⌜ r ≤ length (now (word .entry)) ⌝ }
+{
+    let from = wide(starts[rule]);
+    let to = wide(starts[rule + 1]);
+    put(word, part, &replacements[from..to]);
+    part + (to - from)
+}
+
+// What obeying a rule leaves: so many letters, and whether the next group is opened.
+struct Left {
+    len: usize,
+    opened: bool,
+}
+
+// Obeys a rule whose ending stands behind the first `part` letters.
+fn obey(word: &mut [u8], part: usize, rule: usize) -> Left
+    requires { ⌜ (rule < 62) × (part ≤ length (now word)) ⌝ }
+    requires { ⌜ part + length (written (ruleAt rule .action)) ≤ length (now word) ⌝ }
+    ensures { λ r. ⌜ take (r .len) (now (word .exit)) ≡ act (ruleAt rule .action) (take part (now (word .entry))) ⌝ }
+    ensures { λ r. ⌜ (r .len ≤ length (now (word .entry))) × (r .opened ≡ ruleAt rule .opens) ⌝ }
+{
+    let opened = opens(rule);
+    if single(rule) {
+        if part == 0 {
+            return Left { len: 0, opened };
+        }
+        return Left {
+            len: part - 1,
+            opened,
+        };
+    }
+    let len = replace(word, part, rule, &REPLACEMENTS, &REPLACEMENT_STARTS);
+    Left { len, opened }
+}
+
+// Reads one group on the first `len` letters of the word's place.
+fn turn(
+    word: &mut [u8],
+    len: usize,
+    group: usize,
+    candidates: &[u8],
+    blocks: &[u8],
+    endings: &[u8],
+    starts: &[u8],
+    conditions: &[u8],
+) -> Left
+    requires { ⌜ (group < 9) × ((now candidates ≡ candidateNumbers) × (now blocks ≡ candidateStarts)) ⌝ }
+    requires { ⌜ (now endings ≡ endingLetters) × ((now starts ≡ endingStarts) × (now conditions ≡ conditionNumbers)) ⌝ }
+    requires { ⌜ len ≤ length (now word) ⌝ }
+    requires { ⌜ length (readGroup (take len (now word)) (groupRules group) .word) ≤ length (now word) ⌝ }
+    ensures { λ r. ⌜ take (r .len) (now (word .exit)) ≡ readGroup (take len (now (word .entry))) (groupRules group) .word ⌝ }
+    ensures { λ r. ⌜ r .len ≤ length (now (word .entry)) ⌝ }
+    ensures { λ r. ⌜ r .opened ≡ readGroup (take len (now (word .entry))) (groupRules group) .opened ⌝ }
+{
+    let rule = choose(
+        &word[..len],
+        group,
+        candidates,
+        blocks,
+        endings,
+        starts,
+        conditions,
+    );
+    if rule == 62 {
+        return Left { len, opened: false };
+    }
+    let part = len - size(rule, starts);
+    obey(word, part, rule)
+}
+
+// Reads all groups in the word's place, and returns the length of the stem that stands there then.
+fn read(
+    word: &mut [u8],
+    gates: &[u8],
+    candidates: &[u8],
+    blocks: &[u8],
+    endings: &[u8],
+    starts: &[u8],
+    conditions: &[u8],
+) -> usize
+    requires { ⌜ (now gates ≡ gateNumbers) × ((now candidates ≡ candidateNumbers) × (now blocks ≡ candidateStarts)) ⌝ }
+    requires { ⌜ (now endings ≡ endingLetters) × ((now starts ≡ endingStarts) × (now conditions ≡ conditionNumbers)) ⌝ }
+    ensures { λ r. ⌜ stemOf (now (word .entry)) ≡ done (take r (now (word .exit))) ⌝ }
+    ensures { λ r. ⌜ r ≤ length (now (word .entry)) ⌝ }
+{
+    let mut len = word.len();
+    let mut opened = false;
+    let mut group = 0;
+    while group < 9 {
+        if (gates[group] == 0) | opened {
+            let left = turn(
+                word,
+                len,
+                group,
+                candidates,
+                blocks,
+                endings,
+                starts,
+                conditions,
+            );
+            len = left.len;
+            opened = left.opened;
+        } else {
+            opened = false;
+        }
+        group += 1;
+    }
+    len
+}
+
+// Fills the word's place with spaces behind the stem.
+fn fill(word: &mut [u8], stem: usize)
+    requires { ⌜ stem ≤ length (now word) ⌝ }
+    ensures { λ _. ⌜ now (word .exit) ≡ take stem (now (word .entry)) ++ replicate (length (now (word .entry)) - stem) 32 ⌝ }
+{
+    let mut i = stem;
+    while i < word.len() {
+        word[i] = 32;
+        i += 1;
+    }
+}
+
+// The stem of a word, in its own place: afterwards it stands first and spaces fill the rest, or the word is as it came.
+pub fn stem(word: &mut [u8]) -> Stemmed
+    ensures { λ r. ⌜ Gives (now (word .entry)) r (now (word .exit)) ⌝ }
+{
+    if word.len() == 0 {
+        return Stemmed::WrongLength;
+    }
+    if 64 < word.len() {
+        return Stemmed::WrongLength;
+    }
+    if letters::first_other(word) < word.len() {
+        return Stemmed::OtherByte;
+    }
+    let len = read(
+        word,
+        &GATES,
+        &CANDIDATES,
+        &CANDIDATE_STARTS,
+        &ENDINGS,
+        &ENDING_STARTS,
+        &CONDITIONS,
+    );
+    fill(word, len);
+    Stemmed::Done(len)
+}
+
+// Document 01's number for an answer, and what is returned besides it.
+pub fn number(answer: Stemmed) -> u8
+    ensures { λ r. ⌜ r ≡ numberOf answer ⌝ }
+{
+    match answer {
+        Stemmed::Done(_) => 0,
+        Stemmed::WrongLength => 1,
+        Stemmed::OtherByte => 2,
+        Stemmed::Outgrown => 4,
+    }
+}
+
+pub fn value(answer: Stemmed) -> usize
+    ensures { λ r. ⌜ r ≡ valueOf answer ⌝ }
+{
+    match answer {
+        Stemmed::Done(length) => length,
+        Stemmed::WrongLength => 0,
+        Stemmed::OtherByte => 0,
+        Stemmed::Outgrown => 0,
+    }
+}
