@@ -12,3 +12,4 @@ pub mod ReadingLaws
 pub mod StepLaws
 pub mod LengthLaws
 pub mod WordsLaws
+pub mod Demand2

@@ -1,0 +1,54 @@
+-- `lunarbugle_stem` meets its contract: the numbers of the outcome are small enough to be packed. Assumes nothing.
+use borrow.Author.Needs.{needs}
+use native.Mathlib.Omega.{arith}
+use Rattle.paper.specs.Demand2.{outcome-bounds}
+use Rattle.lunarbugle.specs.Packed.{packed}
+use Rattle.lunarbugle.proofs.lunarbugle_stem.Statement.{statement}
+use Rattle.lunarbugle.proofs.lunarbugle_stem.Tie as tie
+
+stem-requires : tie.Need-stem-requires
+stem-requires c κs = search needs
+
+number-requires : tie.Need-number-requires
+number-requires c κs = search needs
+
+cast-number : tie.Need-cast-number
+cast-number c = search needs
+
+value-requires : tie.Need-value-requires
+value-requires c κs = search needs
+
+mul-result : tie.Need-mul-result
+mul-result c =
+    let gives = c .before .before .before .before .stem .ensures in
+    let bounds = outcome-bounds (c .before .before .before .before .before .before .before .args .word .now) in
+    omega (arith, c .value .ensures, gives .value, bounds .value)
+
+add-result : tie.Need-add-result
+add-result c =
+    let gives = c .before .before .before .before .stem .ensures in
+    let bounds = outcome-bounds (c .before .before .before .before .before .before .before .args .word .now) in
+    omega (arith, c .value .ensures, gives .value, bounds .value, c .before .number .ensures, gives .number, bounds .number)
+
+same-length : tie.Need-same-length
+same-length c = search needs
+
+returns : tie.Need-returns
+unfolding packed
+returns c =
+    let gives = c .before .before .before .before .stem .ensures in
+    let bounds = outcome-bounds (c .before .before .before .before .before .before .before .args .word .now) in
+    (omega (arith, c .value .ensures, gives .value, c .before .number .ensures, gives .number), gives .place)
+
+pub lunarbugle-stem-spec : {M : Type 1} → statement M
+lunarbugle-stem-spec =
+    tie.close
+    (tie.spec
+    stem-requires
+    number-requires
+    cast-number
+    value-requires
+    mul-result
+    add-result
+    same-length
+    returns)

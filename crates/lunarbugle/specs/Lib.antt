@@ -1,0 +1,2 @@
+-- What the C entries return.
+pub mod Packed

@@ -1,0 +1,16 @@
+// The entries for hosts in C: each answers with packed numbers. `include/lunarbugle.h` declares them.
+ghost use mathlib.Core.Path.{_≡_};
+ghost use Rattle.paper.specs.Words.{outcome};
+ghost use Rattle.lunarbugle.specs.Packed.{packed};
+
+// The word stemmer: 01's number, plus 256 times the value returned besides it.
+#[no_mangle]
+pub extern "C" fn lunarbugle_stem(word: &mut [u8]) -> u64
+    ensures { λ r. ⌜ r ≡ packed (outcome (now (word .entry))) ⌝ }
+    ensures { λ _. ⌜ now (word .exit) ≡ outcome (now (word .entry)) .place ⌝ }
+{
+    let answer = words::stem(word);
+    let number = words::number(answer) as u64;
+    let value = words::value(answer) as u64;
+    number + 256 * value
+}

@@ -1,0 +1,43 @@
+/* Lunarbugle: a proved stemmer for English words, for hosts in C and C++.
+ *
+ * Link with liblunarbugle.a (rt staticlib lunarbugle). No entry keeps a pointer, allocates, or reads or writes anything but
+ * the bytes it is lent. Every entry takes any bytes and always returns.
+ *
+ * Numbers returned:
+ *   0  done
+ *   1  the word has 0 or more than 64 bytes
+ *   2  a byte of the word is outside a to z
+ *   4  some group's result is longer than the word's place (the shipped rules never give it)
+ * A refusal, that is any number but 0, leaves every lent byte as it was.
+ */
+#ifndef LUNARBUGLE_H
+#define LUNARBUGLE_H
+
+#include <stddef.h>
+#include <stdint.h>
+
+#ifdef __cplusplus
+extern "C" {
+#endif
+
+/* Stems the len bytes at word in their own place: the stem stands first and spaces fill the rest. Returns the number, plus 256
+ * times the stem's length (0 for a refusal). */
+uint64_t lunarbugle_stem(uint8_t *word, size_t len);
+
+#ifdef __cplusplus
+}
+#endif
+
+/* The number of an answer. */
+static inline unsigned lunarbugle_number(uint64_t answer)
+{
+    return (unsigned)(answer % 256);
+}
+
+/* The stem's length in an answer of lunarbugle_stem. */
+static inline size_t lunarbugle_stem_length(uint64_t answer)
+{
+    return (size_t)(answer / 256);
+}
+
+#endif
