@@ -1,5 +1,6 @@
 -- Each column of the tables, at the number of a rule, is what the rule says. Assumes nothing.
-use Prim.Native.Nat.{ℕ, _+_, _-_, _≤_, _<_}
+use Prim.Native.Nat.{ℕ, zero, suc, _+_, _-_, _≤_, _<_}
+use native.Mathlib.Nat.{not-suc-le-zero, le-of-suc-le-suc}
 use native.Mathlib.Omega.{arith}
 use mathlib.Core.Path.{_≡_, refl, ap, sym, _∙_}
 use mathlib.Core.Bool.{Bool, true, false, cond, _||_}
@@ -7,7 +8,7 @@ use mathlib.Core.List.{List, [], _∷_, _++_, map}
 use lib.Dec.{eqb}
 use lib.ListN.{length, take, drop, getD, length-map, List·getD-map}
 use Rattle.paper.specs.Letters.{letters}
-use Rattle.paper.specs.Groups.{Action, Rule, Gate, always, if-opened, Group, runs}
+use Rattle.paper.specs.Groups.{Action, replace, single-letter, Rule, Gate, always, if-opened, Group, runs}
 use Rattle.paper.specs.Shipped.{
   rule,
   opening,
@@ -32,11 +33,12 @@ use Rattle.words.specs.Tables.{
   noRule,
   ruleAt,
   gateNumber,
-  gates,
+  gateDigits,
   endings,
   endingLetters,
   endingStarts,
-  conditionNumbers,
+  conditionDigits,
+  digit,
   written,
   isSingle,
   replacements,
@@ -79,35 +81,76 @@ row-at list letters places number empty letters-are places-are known =
       part = here .part ∙ own;
     })
 
--- a table of one number for each rule
-pub number-at : (f : Rule → ℕ) (number : ℕ) → f noRule ≡ 0 → getD (map f rules) number 0 ≡ f (ruleAt number)
-unfolding ruleAt
-number-at f number zero-first = ap (getD (map f rules) number) (sym zero-first) ∙ List·getD-map f rules number noRule
+-- past no end, what stands beyond a list does not matter
+getD-either : {A : Type 0} (l : List A) (k : ℕ) (a b : A) → k < length l → getD l k a ≡ getD l k b
+getD-either [] k a b h = absurd (not-suc-le-zero h)
+getD-either (x ∷ l) zero a b h = refl
+getD-either (x ∷ l) (suc k) a b h = getD-either l k a b (le-of-suc-le-suc h)
 
--- the gate of a group, by its number
-gate-runs : (gate : Gate) (opened : Bool) → (eqb (gateNumber gate) 0 || opened) ≡ runs gate opened
+-- a table of one number for each entry of a list
+number-at :
+    {A : Type 0} (f : A → ℕ) (l : List A) (k : ℕ) (other : A) → k < length l → getD (map f l) k 0 ≡ f (getD l k other)
+number-at f l k other h = getD-either (map f l) k 0 (f other) (rw length-map h) ∙ List·getD-map f l k other
+
+rule-number-at : (f : Rule → ℕ) (rule : ℕ) → rule < 62 → getD (map f rules) rule 0 ≡ f (ruleAt rule)
+unfolding ruleAt
+rule-number-at f rule known = number-at f rules rule noRule (rw rule-count known)
+
+-- a digit of 0 or 1
+from-digit : (b : Bool) → eqb (digit (cond b 1 0)) 49 ≡ b
+from-digit true = refl
+from-digit false = refl
+
+-- the gate of a group, by its digit
+gate-runs : (gate : Gate) (opened : Bool) → (eqb (digit (gateNumber gate)) 48 || opened) ≡ runs gate opened
 gate-runs always opened = refl
 gate-runs if-opened opened = refl
 
-pub gate-at : (g : ℕ) (opened : Bool) → (eqb (getD gates g 0) 0 || opened) ≡ runs (getD shipped g noGroup .gate) opened
-unfolding gates noGroup
-gate-at g opened =
-    ap (λ (n : ℕ). eqb n 0 || opened) (List·getD-map (λ (group : Group). gateNumber (group .gate)) shipped g noGroup)
+group-count : length shipped ≡ 9
+unfolding shipped
+group-count = refl
+
+pub gate-count : length gateDigits ≡ 9
+unfolding gateDigits
+gate-count = refl
+
+pub gate-at :
+    (g : ℕ) (opened : Bool) → g < 9 → (eqb (getD gateDigits g 0) 48 || opened) ≡ runs (getD shipped g noGroup .gate) opened
+unfolding gateDigits
+gate-at g opened known =
+    ap (λ (n : ℕ). eqb n 48 || opened)
+    (number-at (λ (group : Group). digit (gateNumber (group .gate))) shipped g noGroup (rw group-count known))
     ∙ gate-runs (getD shipped g noGroup .gate) opened
+
+pub condition-count : length conditionDigits ≡ 62
+unfolding conditionDigits
+condition-count = length-map rules (λ r. digit (r .condition)) ∙ rule-count
+
+pub condition-at : (rule : ℕ) → rule < 62 → getD conditionDigits rule 0 ≡ digit (ruleAt rule .condition)
+unfolding conditionDigits
+condition-at rule known = rule-number-at (λ r. digit (r .condition)) rule known
+
+single-digit : (action : Action) → eqb (digit (isSingle action)) 49 ≡ eqb (isSingle action) 1
+single-digit (replace s2) = refl
+single-digit single-letter = refl
+
+pub single-at : (rule : ℕ) → rule < 62 → eqb (getD singles rule 0) 49 ≡ eqb (isSingle (ruleAt rule .action)) 1
+unfolding singles
+single-at rule known =
+    ap (λ (n : ℕ). eqb n 49) (rule-number-at (λ r. digit (isSingle (r .action))) rule known)
+    ∙ single-digit (ruleAt rule .action)
+
+pub opens-at : (rule : ℕ) → rule < 62 → eqb (getD openings rule 0) 49 ≡ ruleAt rule .opens
+unfolding openings
+opens-at rule known =
+    ap (λ (n : ℕ). eqb n 49) (rule-number-at (λ r. digit (cond (r .opens) 1 0)) rule known)
+    ∙ from-digit (ruleAt rule .opens)
 
 -- the endings, as the functions are lent them
 pub ending-row :
     (rule : ℕ) (places : List ℕ) → rule < 62 → places ≡ endingStarts → Row (λ r. r .ending) endingLetters places rule
 unfolding endingLetters endingStarts endings
 ending-row rule places known e = row-at (λ r. r .ending) (joined (map (λ r. r .ending) rules)) places rule refl refl e known
-
-pub condition-count : length conditionNumbers ≡ 62
-unfolding conditionNumbers
-condition-count = length-map rules (λ r. r .condition) ∙ rule-count
-
-pub condition-at : (rule : ℕ) → getD conditionNumbers rule 0 ≡ ruleAt rule .condition
-unfolding conditionNumbers
-condition-at rule = number-at (λ r. r .condition) rule refl
 
 -- the replacements, as the functions are lent them
 pub replacement-row :
@@ -119,20 +162,3 @@ pub replacement-row :
 unfolding replacementLetters replacementStarts replacements
 replacement-row rule letters places known letters-are places-are =
     row-at (λ r. written (r .action)) letters places rule refl letters-are places-are known
-
--- numbers of 0 or 1, one for each rule
-pub single-at : (rule : ℕ) → getD singles rule 0 ≡ isSingle (ruleAt rule .action)
-unfolding singles
-single-at rule = number-at (λ r. isSingle (r .action)) rule refl
-
-from-bit : (b : Bool) → eqb (cond b 1 0) 1 ≡ b
-from-bit true = refl
-from-bit false = refl
-
-pub opens-at : (rule : ℕ) → eqb (getD openings rule 0) 1 ≡ ruleAt rule .opens
-unfolding openings
-opens-at rule = ap (λ (n : ℕ). eqb n 1) (number-at (λ r. cond (r .opens) 1 0) rule refl) ∙ from-bit (ruleAt rule .opens)
-
-pub gate-count : length gates ≡ 9
-unfolding gates
-gate-count = refl

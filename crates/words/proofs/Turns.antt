@@ -32,7 +32,7 @@ use Rattle.paper.specs.Words.{stem}
 use Rattle.words.proofs.Columns.{gate-at}
 use Rattle.paper.specs.GroupsLaws.{ending-short}
 use Rattle.paper.specs.ReadingLaws.{obeyed-first}
-use Rattle.words.specs.Tables.{ruleAt, picked, written, noGroup, groupRules, gates}
+use Rattle.words.specs.Tables.{ruleAt, picked, written, noGroup, groupRules, gateDigits}
 
 -- a word that stands first in its place, and the rules of a group
 module _ (place : List ℕ) (len : ℕ) (within : len ≤ length place) (rules : List Rule) where
@@ -76,22 +76,22 @@ module _ (given : List ℕ) (k : ℕ) (known : k < 9) (opened : Bool) (word : Li
   in-list : k < length shipped
   in-list = rw group-count known
 
-  pub passed-over : (eqb (getD gates k 0) 0 || opened) ≡ false → Left-to-read given (k + 1) false word
-  passed-over closed = sym (skipped (length given) shipped noGroup k in-list opened word (sym (gate-at k opened) ∙ closed)) ∙ left
+  pub passed-over : (eqb (getD gateDigits k 0) 48 || opened) ≡ false → Left-to-read given (k + 1) false word
+  passed-over closed = sym (skipped (length given) shipped noGroup k in-list opened word (sym (gate-at k opened known) ∙ closed)) ∙ left
 
   -- the shipped rules never outgrow the place
-  pub result-fits : (eqb (getD gates k 0) 0 || opened) ≡ true → length (readGroup word (groupRules k) .word) ≤ length given
+  pub result-fits : (eqb (getD gateDigits k 0) 48 || opened) ≡ true → length (readGroup word (groupRules k) .word) ≤ length given
   unfolding groupRules
   result-fits run =
-      fits (length given) shipped noGroup k in-list opened word (sym (gate-at k opened) ∙ run)
+      fits (length given) shipped noGroup k in-list opened word (sym (gate-at k opened known) ∙ run)
       (λ outgrew. let clash : done (stem-done given .0) ≡ outgrown = sym (stem-done given .1) ∙ sym left ∙ outgrew in let z : _≡_ {A = ℕ} 0 1 = cc in omega arith)
 
   pub read-on :
-      (eqb (getD gates k 0) 0 || opened) ≡ true
+      (eqb (getD gateDigits k 0) 48 || opened) ≡ true
       → Left-to-read given (k + 1) (readGroup word (groupRules k) .opened) (readGroup word (groupRules k) .word)
   unfolding groupRules
   read-on run =
-      sym (ran (length given) shipped noGroup k in-list opened word (sym (gate-at k opened) ∙ run) (result-fits run)) ∙ left
+      sym (ran (length given) shipped noGroup k in-list opened word (sym (gate-at k opened known) ∙ run) (result-fits run)) ∙ left
 
 -- where the result fits, what is written fits too
 pub written-fits :

@@ -99,21 +99,25 @@ unfoldable pub replacementStarts : List ℕ
 unfolding starts replacements
 replacementStarts = starts 0 replacements
 
-unfoldable pub conditionNumbers : List ℕ
+-- a number below ten as its digit
+abbrev pub digit : ℕ → ℕ
+digit number = 48 + number
+
+unfoldable pub conditionDigits : List ℕ
 unfolding rules
-conditionNumbers = map (λ rule. rule .condition) rules
+conditionDigits = map (λ rule. digit (rule .condition)) rules
 
 unfoldable pub singles : List ℕ
 unfolding rules
-singles = map (λ rule. isSingle (rule .action)) rules
+singles = map (λ rule. digit (isSingle (rule .action))) rules
 
 unfoldable pub openings : List ℕ
 unfolding rules
-openings = map (λ rule. cond (rule .opens) 1 0) rules
+openings = map (λ rule. digit (cond (rule .opens) 1 0)) rules
 
-unfoldable pub gates : List ℕ
+unfoldable pub gateDigits : List ℕ
 unfolding letters rule opening single group-1a group-1b follow-up group-1c group-2 group-3 group-4 group-5a group-5b shipped
-gates = map (λ group. gateNumber (group .gate)) shipped
+gateDigits = map (λ group. digit (gateNumber (group .gate))) shipped
 
 -- a word whose last letter is this one may end with the rule's ending
 unfoldable pub may : ℕ → Rule → Bool

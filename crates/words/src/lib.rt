@@ -1,8 +1,9 @@
 // The word stemmer: reads the shipped rules group by group from constant tables, in the word's own place.
+mod index;
 mod rules;
 
-use rules::CANDIDATE_STARTS;
-use rules::CANDIDATES;
+use index::CANDIDATE_STARTS;
+use index::CANDIDATES;
 use rules::CONDITIONS;
 use rules::ENDING_STARTS;
 use rules::ENDINGS;
@@ -22,7 +23,7 @@ ghost use Rattle.paper.specs.Groups.{done, endsWith, act, first, fitting, longe
 ghost use Rattle.paper.specs.Words.{stem as stemOf};
 ghost use Rattle.paper.specs.ReadingLaws.{obeys};
 ghost use Rattle.words.specs.Answer.{numberOf, valueOf, Gives};
-ghost use Rattle.words.specs.Tables.{AllBelow, Column, ruleAt, picked, written, isSingle, groupRules, replacementLetters, replacementStarts, endingLetters, endingStarts, conditionNumbers, candidateNumbers, candidateStarts, gates as gateNumbers};
+ghost use Rattle.words.specs.Tables.{AllBelow, Column, ruleAt, picked, written, isSingle, groupRules, replacementLetters, replacementStarts, endingLetters, endingStarts, conditionDigits, candidateNumbers, candidateStarts, gateDigits};
 
 pub enum Stemmed {
     // 0: done, with the length of the stem.
@@ -88,7 +89,7 @@ fn passes(
     starts: &[u8],
     conditions: &[u8],
 ) -> bool
-    requires { ⌜ (rule < 62) × ((now endings ≡ endingLetters) × ((now starts ≡ endingStarts) × (now conditions ≡ conditionNumbers))) ⌝ }
+    requires { ⌜ (rule < 62) × ((now endings ≡ endingLetters) × ((now starts ≡ endingStarts) × (now conditions ≡ conditionDigits))) ⌝ }
     ensures { λ r. ⌜ r ≡ obeys (now (word .entry)) n (ruleAt rule) ⌝ }
 {
     if size(rule, starts) != n {
@@ -98,7 +99,7 @@ fn passes(
         return false;
     }
     let part = word.len() - n;
-    letters::holds(conditions[rule], &word[..part])
+    letters::holds(conditions[rule] - 48, &word[..part])
 }
 
 // The first of these rules that passes; 62 for none.
@@ -111,7 +112,7 @@ fn obeyed(
     conditions: &[u8],
 ) -> usize
     requires { ⌜ AllBelow 62 (now candidates) ⌝ }
-    requires { ⌜ (now endings ≡ endingLetters) × ((now starts ≡ endingStarts) × (now conditions ≡ conditionNumbers)) ⌝ }
+    requires { ⌜ (now endings ≡ endingLetters) × ((now starts ≡ endingStarts) × (now conditions ≡ conditionDigits)) ⌝ }
     ensures { λ r. ⌜ picked r ≡ first (obeys (now (word .entry)) n) (map ruleAt (now (candidates .entry))) ⌝ }
     ensures { λ r. ⌜ r ≤ 62 ⌝ }
 {
@@ -155,7 +156,7 @@ fn choose(
     conditions: &[u8],
 ) -> usize
     requires { ⌜ (group < 9) × ((now candidates ≡ candidateNumbers) × (now blocks ≡ candidateStarts)) ⌝ }
-    requires { ⌜ (now endings ≡ endingLetters) × ((now starts ≡ endingStarts) × (now conditions ≡ conditionNumbers)) ⌝ }
+    requires { ⌜ (now endings ≡ endingLetters) × ((now starts ≡ endingStarts) × (now conditions ≡ conditionDigits)) ⌝ }
     ensures { λ r. ⌜ picked r ≡ obeyedOf (now (word .entry)) (groupRules group) ⌝ }
     ensures { λ r. ⌜ r ≤ 62 ⌝ }
 {
@@ -175,7 +176,7 @@ fn single(rule: usize) -> bool
     requires { ⌜ rule < 62 ⌝ }
     ensures { λ r. ⌜ r ≡ eqb (isSingle (ruleAt rule .action)) 1 ⌝ }
 {
-    SINGLE[rule] == 1
+    SINGLE[rule] == 49
 }
 
 // Whether a rule opens the next group.
@@ -183,7 +184,7 @@ fn opens(rule: usize) -> bool
     requires { ⌜ rule < 62 ⌝ }
     ensures { λ r. ⌜ r ≡ ruleAt rule .opens ⌝ }
 {
-    OPENS[rule] == 1
+    OPENS[rule] == 49
 }
 
 // Writes letters into the word at a place.
@@ -250,7 +251,7 @@ fn turn(
     conditions: &[u8],
 ) -> Left
     requires { ⌜ (group < 9) × ((now candidates ≡ candidateNumbers) × (now blocks ≡ candidateStarts)) ⌝ }
-    requires { ⌜ (now endings ≡ endingLetters) × ((now starts ≡ endingStarts) × (now conditions ≡ conditionNumbers)) ⌝ }
+    requires { ⌜ (now endings ≡ endingLetters) × ((now starts ≡ endingStarts) × (now conditions ≡ conditionDigits)) ⌝ }
     requires { ⌜ len ≤ length (now word) ⌝ }
     requires { ⌜ length (readGroup (take len (now word)) (groupRules group) .word) ≤ length (now word) ⌝ }
     ensures { λ r. ⌜ take (r .len) (now (word .exit)) ≡ readGroup (take len (now (word .entry))) (groupRules group) .word ⌝ }
@@ -283,8 +284,8 @@ fn read(
     starts: &[u8],
     conditions: &[u8],
 ) -> usize
-    requires { ⌜ (now gates ≡ gateNumbers) × ((now candidates ≡ candidateNumbers) × (now blocks ≡ candidateStarts)) ⌝ }
-    requires { ⌜ (now endings ≡ endingLetters) × ((now starts ≡ endingStarts) × (now conditions ≡ conditionNumbers)) ⌝ }
+    requires { ⌜ (now gates ≡ gateDigits) × ((now candidates ≡ candidateNumbers) × (now blocks ≡ candidateStarts)) ⌝ }
+    requires { ⌜ (now endings ≡ endingLetters) × ((now starts ≡ endingStarts) × (now conditions ≡ conditionDigits)) ⌝ }
     ensures { λ r. ⌜ stemOf (now (word .entry)) ≡ done (take r (now (word .exit))) ⌝ }
     ensures { λ r. ⌜ r ≤ length (now (word .entry)) ⌝ }
 {
@@ -292,7 +293,7 @@ fn read(
     let mut opened = false;
     let mut group = 0;
     while group < 9 {
-        if (gates[group] == 0) | opened {
+        if (gates[group] == 48) | opened {
             let left = turn(
                 word,
                 len,

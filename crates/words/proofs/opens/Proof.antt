@@ -1,6 +1,5 @@
 -- `words::opens` meets its contract: its table is the column of the list. Assumes nothing.
 use borrow.Author.Needs.{needs}
-use mathlib.Core.Path.{_≡_, ap}
 use Rattle.words.specs.Tables.{openings}
 use Rattle.words.proofs.Columns.{opens-at}
 use Rattle.words.proofs.opens.Statement.{statement}
@@ -11,7 +10,7 @@ array-read-result c = search needs
 
 returns : tie.Need-returns
 unfolding openings
-returns c = opens-at (c .args .rule)
+returns c = opens-at (c .args .rule) (c .pre)
 
 pub opens-spec : {M : Type 1} → statement M
 opens-spec = tie.close (tie.spec array-read-result returns)

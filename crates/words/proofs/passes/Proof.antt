@@ -1,5 +1,5 @@
 -- `words::passes` meets its contract: one test after the other. Assumes nothing.
-use Prim.Native.Nat.{ℕ, _-_}
+use Prim.Native.Nat.{ℕ, _-_, _<_}
 use borrow.Author.Needs.{needs}
 use borrow.Author.Tests.{not-true, not-false}
 use native.Mathlib.Omega.{arith}
@@ -12,10 +12,17 @@ use Rattle.paper.specs.Conditions.{holds}
 use Rattle.paper.specs.Groups.{endsWith}
 use Rattle.paper.specs.GroupsLaws.{ending-short}
 use Rattle.paper.specs.ReadingLaws.{obeys-size, obeys-ends, obeys-holds}
-use Rattle.words.specs.Tables.{ruleAt}
+use Rattle.words.specs.Tables.{digit, ruleAt, conditionDigits}
 use Rattle.words.proofs.Columns.{condition-at, condition-count}
 use Rattle.words.proofs.passes.Statement.{statement}
 use Rattle.words.proofs.passes.Tie as tie
+
+condition-of :
+    (conditions : List ℕ) (rule : ℕ)
+    → conditions ≡ conditionDigits
+    → rule < 62
+    → getD conditions rule 0 ≡ digit (ruleAt rule .condition)
+condition-of conditions rule e known = ap (λ (l : List ℕ). getD l rule 0) e ∙ condition-at rule known
 
 size-requires : tie.Need-size-requires
 size-requires c κs = search needs
@@ -23,7 +30,7 @@ size-requires c κs = search needs
 returns : tie.Need-returns
 returns c =
     let s = c .before .before .before .before .before .before in
-    sym (obeys-size (s .args .word .now) (s .args .n) (ruleAt (s .args .rule)) (λ e. c .if1 .taken (c .before .size .ensures ∙ e)))
+    sym (obeys-size (s .args .word .now) (s .args .n) (ruleAt (s .args .rule)) (λ e. omega (arith, c .if1 .taken, c .before .size .ensures)))
 
 ends-requires : tie.Need-ends-requires
 ends-requires c κs = search needs
@@ -44,10 +51,13 @@ shared-slice-read-holds c =
     let s = c .before .before .before .before .before .before .before .before .before in
     omega (arith, s .pre .0, ap length (s .pre .1 .1 .1), condition-count)
 
+sub-holds : tie.Need-sub-holds
+sub-holds c =
+    let s = c .before .before .before .before .before .before .before .before .before in
+    omega (arith, condition-of (s .args .conditions .now) (s .args .rule) (s .pre .1 .1 .1) (s .pre .0))
+
 slice-aggregate-holds : tie.Need-slice-aggregate-holds
-slice-aggregate-holds c =
-    let s = c .before .before .before .before .before .before .before .before .before .before in
-    sym (length-take-le (length (s .args .word .now) - s .args .n) (s .args .word .now) (omega arith))
+slice-aggregate-holds c = sym (length-take-le _ _ (omega arith))
 
 holds-requires : tie.Need-holds-requires
 holds-requires c κs = search needs
@@ -60,9 +70,9 @@ returns-3 c =
     let ended : endsWith word (rule .ending) ≡ true =
     sym (c .before .before .before .before .ends .ensures) ∙ not-false _ (c .before .before .before .if2 .left) in
     let size : length (rule .ending) ≡ s .args .n =
-    sym (c .before .before .before .before .before .before .size .ensures) ∙ c .before .before .before .before .before .if1 .left in
-    let condition : getD (s .args .conditions .now) (s .args .rule) 0 ≡ rule .condition =
-    ap (λ (l : List ℕ). getD l (s .args .rule) 0) (s .pre .1 .1 .1) ∙ condition-at (s .args .rule) in
+    omega (arith, c .before .before .before .before .before .before .size .ensures, c .before .before .before .before .before .if1 .left) in
+    let condition : getD (s .args .conditions .now) (s .args .rule) 0 - 48 ≡ rule .condition =
+    omega (arith, condition-of (s .args .conditions .now) (s .args .rule) (s .pre .1 .1 .1) (s .pre .0)) in
     c .holds .ensures
     ∙ ap (λ (k : ℕ). holds k (take (length word - s .args .n) word)) condition
     ∙ sym (obeys-holds word (s .args .n) rule size ended)
@@ -77,6 +87,7 @@ passes-spec =
     returns-2
     sub-part
     shared-slice-read-holds
+    sub-holds
     slice-aggregate-holds
     holds-requires
     returns-3)

@@ -12,7 +12,7 @@ use lib.Seq.{take-length}
 use Rattle.paper.specs.Shipped.{shipped}
 use Rattle.paper.specs.Groups.{Group, read}
 use Rattle.paper.specs.Words.{readWord, stem}
-use Rattle.words.specs.Tables.{gates}
+use Rattle.words.specs.Tables.{gateDigits}
 use Rattle.words.proofs.Turns.{Left-to-read, passed-over, result-fits, read-on}
 use Rattle.words.proofs.Columns.{gate-count}
 use Rattle.words.proofs.read.Statement.{statement}
@@ -40,7 +40,7 @@ turn-requires c κs =
     let at = c .before .before .before .before .loop in
     let given = s .args .word .now in
     let word = at .word in
-    let run : (eqb (getD gates (at .group) 0) 0 || at .opened) ≡ true = rw (s .pre .0 .0) at (c .before .if1 .taken) in
+    let run : (eqb (getD gateDigits (at .group) 0) 48 || at .opened) ≡ true = rw (s .pre .0 .0) at (c .before .if1 .taken) in
     let fits = result-fits given (at .group) (omega arith) (at .opened) (take (at .len) word) (at .inv .3) run in
     ((omega arith, s .pre .0 .1), (s .pre .1, (at .inv .1, omega (arith, fits, at .inv .2))))
 
@@ -58,7 +58,7 @@ loop-again c =
     let known : at .group < 9 = omega arith in
     ⊎-elim
     (λ w.
-    let run : (eqb (getD gates (at .group) 0) 0 || at .opened) ≡ true = rw (s .pre .0 .0) at (w .0 .taken) in
+    let run : (eqb (getD gateDigits (at .group) 0) 48 || at .opened) ≡ true = rw (s .pre .0 .0) at (w .0 .taken) in
     let next = read-on given (at .group) known (at .opened) (take (at .len) (at .word)) (at .inv .3) run in
     let kept : length (w .2 .last .0) ≡ length (at .word) = w .2 .kept .0 in (
       omega arith,
@@ -67,7 +67,7 @@ loop-again c =
       rw (w .5, w .6, w .7, w .2 .ensures .0, w .2 .ensures .1 .1) next,
     ))
     (λ w.
-    let closed : (eqb (getD gates (at .group) 0) 0 || at .opened) ≡ false = rw (s .pre .0 .0) at (w .0 .left) in
+    let closed : (eqb (getD gateDigits (at .group) 0) 48 || at .opened) ≡ false = rw (s .pre .0 .0) at (w .0 .left) in
     let next = passed-over given (at .group) known (at .opened) (take (at .len) (at .word)) (at .inv .3) closed in
     (omega arith, rw (w .1, w .2) (at .inv .1), rw (w .1) (at .inv .2), rw (w .1, w .2, w .3) next))
     (c .if1 .came)

@@ -8,7 +8,7 @@ use Rattle.paper.specs.Words.{firstOther, outcome, stem}
 use Rattle.paper.specs.WordsLaws.{outcome-empty, outcome-long, outcome-other, outcome-read}
 use Rattle.words.specs.declared.Stemmed.the-variants.{WrongLength, OtherByte}
 use Rattle.words.proofs.Outcomes.{gives-refused, gives-done}
-use Rattle.words.specs.Tables.{gates, candidateNumbers, candidateStarts, endingLetters, endingStarts, conditionNumbers}
+use Rattle.words.specs.Tables.{gateDigits, candidateNumbers, candidateStarts, endingLetters, endingStarts, conditionDigits}
 use Rattle.words.proofs.stem.Statement.{statement}
 use Rattle.words.proofs.stem.Tie as tie
 
@@ -54,7 +54,7 @@ slice-aggregate-read-6 : tie.Need-slice-aggregate-read-6
 slice-aggregate-read-6 c = search needs
 
 read-requires : tie.Need-read-requires
-unfolding gates candidateNumbers candidateStarts endingLetters endingStarts conditionNumbers
+unfolding gateDigits candidateNumbers candidateStarts endingLetters endingStarts conditionDigits
 read-requires c κs = ((refl, (refl, refl)), (refl, (refl, refl)))
 
 fill-requires : tie.Need-fill-requires
