@@ -53,9 +53,9 @@ def made_groups(rng):
 def damaged(rng, sheet):
     """One to three bytes are changed, put in or taken out; or the sheet is cut."""
     sheet = bytearray(sheet)
-    for _ in range(rng.randint(1, 3)):
+    for _ in range(rng.choice((1, 1, 1, 2, 3))):
         place = rng.randint(0, len(sheet))
-        byte = rng.choice((rng.randrange(256), rng.randrange(14), rng.choice(b"aelsz`{")))
+        byte = rng.choice((rng.randrange(256), rng.randrange(14), *rng.choices(b"aelsz`{", k=2)))
         shape = rng.random()
         if shape < 0.7:
             sheet[place : place + 1] = bytes([byte])
