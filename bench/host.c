@@ -1,7 +1,7 @@
-/* Times stemmers against each other on the same words: the proved one through its C entry, the plain
-   rendering, and libstemmer's Porter where the host was built with it. First all of them have to give
-   the same stems for every word. In each round every program stems every word once, in turn, so that
-   whatever else the machine does falls on all of them; the median round counts.
+/* Times stemmers against each other on the same words: the proved one through its C entry, the
+   plain rendering, and libstemmer's Porter where the host was built with it. First all of them have
+   to give the same stems for every word. In each round every program stems every word once, in
+   turn, so that whatever else the machine does falls on all of them; the median round counts.
 
    host FILE ROUNDS    FILE has a word of small letters on each line */
 
@@ -107,8 +107,9 @@ static int agree(void)
                 length = stem.length;
                 memcpy(first, stem.letters, length);
             } else if (stem.length != length || memcmp(stem.letters, first, length) != 0) {
-                printf("%s and %s differ at word %zu, %.*s\n", programs[0].name, programs[program].name,
-                       word + 1, (int)(starts[word + 1] - starts[word]), words + starts[word]);
+                printf("%s and %s differ at word %zu, %.*s\n", programs[0].name,
+                       programs[program].name, word + 1, (int)(starts[word + 1] - starts[word]),
+                       words + starts[word]);
                 return 0;
             }
         }

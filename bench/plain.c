@@ -1,6 +1,6 @@
-/* A plain C rendering of document 01's word stemmer, written the way such programs are mostly written
-   by hand: the word in a buffer, `ends` and `put` over the two lengths below, a switch on a letter of
-   the ending in the long steps. It is what the proved stemmer's time is held against. */
+/* A plain C rendering of document 01's word stemmer, written the way such programs are mostly
+   written by hand: the word in a buffer, `ends` and `put` over the two lengths below, a switch on
+   a letter of the ending in the long steps. The proved stemmer's time is held against it. */
 
 #include "programs.h"
 
@@ -50,7 +50,8 @@ static int has_vowel(void)
 
 static int ends_double(void)
 {
-    return part >= 2 && word[part - 1] == word[part - 2] && consonant(part - 1) && consonant(part - 2);
+    return part >= 2 && word[part - 1] == word[part - 2] && consonant(part - 1) &&
+           consonant(part - 2);
 }
 
 static int ends_short(void)

@@ -1,4 +1,4 @@
-/* The programs that are timed against each other, besides the proved stemmer of include/lunarbugle.h. */
+/* The programs that the proved stemmer of include/lunarbugle.h is timed against. */
 #ifndef PROGRAMS_H
 #define PROGRAMS_H
 

@@ -13,11 +13,9 @@ STEMS = """feed→feed agreed→agre element→element hopping→hop hoping→ho
     controlling→control sky→sky toy→toi ies→i s→ ing→ing eed→eed relational→relat rational→ration
     generalizations→gener oscillators→oscil xyying→xyi vileli→vile cats→cat sing→sing agre→agr"""
 
-REFUSED_WORDS = {
-    1: [b"", b"a" * 65, b"1" * 65, b"a" * 4096, b"A" * 4096],
-    2: [b"a1", b"1", b"Feed", b"feeD", b"FEED", b"cats ", b" cats", b"a\0", b"\xff", b"`", b"{",
-        b"caf\xc3\xa9s", b"cat's", b"a" * 63 + b"Z", b"9" * 64],
-}  # fmt: skip
+WRONG_LENGTH = [b"", b"a" * 65, b"1" * 65, b"a" * 4096, b"A" * 4096]
+OTHER_BYTES = [b"a1", b"1", b"Feed", b"feeD", b"FEED", b"cats ", b" cats", b"a\0", b"\xff"]
+OTHER_BYTES += [b"`", b"{", b"caf\xc3\xa9s", b"cat's", b"a" * 63 + b"Z", b"9" * 64]
 
 
 def done(word, stem):
@@ -26,7 +24,8 @@ def done(word, stem):
 
 WORDS = [done(*pair.encode().split("→".encode())) for pair in STEMS.split()]
 WORDS += [done(b"a" * 64, b"a" * 64)]
-WORDS += [((WORD, word), (no, 0, word)) for no, words in REFUSED_WORDS.items() for word in words]
+WORDS += [((WORD, word), (1, 0, word)) for word in WRONG_LENGTH]
+WORDS += [((WORD, word), (2, 0, word)) for word in OTHER_BYTES]
 
 # Texts
 

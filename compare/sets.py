@@ -33,8 +33,8 @@ class Result:
 class Set:
     """Requests that are made in batches; each batch is one run of probe.
 
-    `requests(batch)` gives a batch's requests. `third(request)`, where there is one, gives the answer
-    by a third way, or None where it has none."""
+    `requests(batch)` gives a batch's requests. `third(request)`, where there is one, gives the
+    answer by a third way, or None where that way has none."""
 
     def __init__(self, name, batches, requests, third=None):
         self.name = name
@@ -43,7 +43,7 @@ class Set:
         self.third = third
 
     def compare(self, batch, alone):
-        """Compares a batch; `alone` leaves probe out, and holds the second program to the third way."""
+        """Compares a batch; `alone` leaves probe out, and only the third way is left to compare."""
         result = Result()
         requests = self.requests(batch)
         wrote = b"" if alone else through_probe(b"".join(map(coded_request, requests)))

@@ -39,12 +39,12 @@ def made_rule(rng, earlier):
 
 def made_groups(rng):
     """Groups within 01's bounds: mostly a few, now and then as many as are allowed."""
-    sizes = rng.choice((1, 2, 3, 4, 5, 8, 16, 16) if rng.random() < 0.1 else (0, 1, 2, 2, 3))
-    most = rng.choice((2, 4, 8)) if rng.random() < 0.98 else 128 // max(1, sizes)
+    count = rng.choice((4, 5, 8, 16, 16) if rng.random() < 0.1 else (0, 1, 2, 2, 3))
+    most_rules = rng.choice((2, 4, 8)) if rng.random() < 0.98 else 128 // max(1, count)
     groups = []
-    for index in range(sizes):
+    for index in range(count):
         rules = []
-        for _ in range(rng.randint(0, most)):
+        for _ in range(rng.randint(0, most_rules)):
             rules.append(made_rule(rng, [rule.ending for rule in rules]))
         groups.append(Group(rng.randint(0, 1) if index else 0, rules))
     return groups
@@ -68,17 +68,27 @@ def damaged(rng, sheet):
     return bytes(sheet)
 
 
+def rule_body(rng):
+    """A body of kind 2 whose parts lie at 01's bounds, on either side."""
+    ending = rng.choice((b"a", b"z")) * rng.choice((0, 0, 1, 12, 13))
+    replacement = rng.choice((b"a", b"z")) * rng.choice((0, 0, 1, 12, 13))
+    condition, action = rng.choice((0, 5, 8, 9)), rng.choice((0, 0, 0, 1, 2))
+    opens = rng.choice((0, 0, 1, 1, 2))
+    n = len(ending) + rng.choice((0, 0, 0, 0, 1, -len(ending)))
+    whole = bytes([condition, action, opens, n]) + ending + replacement
+    return whole[:3] if rng.random() < 0.1 else whole
+
+
+GATES = [b"\0\0", b"\0\0", b"\1\0", b"\2\0", b"\0\1", b"\0", b"\0\0\0"]
+
+
 def bounded_record(rng):
-    """A record whose fields lie at 01's bounds, on either side."""
+    """A record of any kind whose parts lie at 01's bounds, on either side."""
     kind = rng.choice((GROUP, GROUP, RULE, RULE, RULE, RULE, END, 0, 4, 258))
     if kind == GROUP:
-        return record(kind, rng.choice((b"\0\0", b"\0\0", b"\1\0", b"\2\0", b"\0\1", b"\0", b"\0\0\0")))
+        return record(kind, rng.choice(GATES))
     if kind == RULE:
-        condition, action = rng.choice((0, 5, 8, 9)), rng.choice((0, 0, 0, 1, 2))
-        ending, replacement = (rng.choice((0, 0, 1, 12, 13)) * rng.choice((b"a", b"z")) for _ in "12")
-        n = len(ending) + rng.choice((0, 0, 0, 0, 1, -len(ending)))
-        body = bytes([condition, action, rng.choice((0, 0, 1, 1, 2)), n]) + ending + replacement
-        return record(kind, body[: rng.choice((3, 4, 99, 99, 99, 99))])
+        return record(kind, rule_body(rng))
     return record(kind, rng.choice((b"", b"", b"\0")))
 
 
@@ -90,8 +100,9 @@ def at_bounds(rng):
         groups = [Group(0, [])] * rng.choice((14, 15, 16))
     elif rng.random() < 0.05:
         groups = [Group(0, SHIPPED[4].rules[:1] * rng.choice((126, 127, 128)))]
-    beginning = sheet_of(groups)[:-4]
-    return beginning + b"".join(bounded_record(rng) for _ in range(rng.randint(0, 3))) + record(END, b"")
+    sheet = sheet_of(groups)
+    beginning, end = sheet[:-4], sheet[-4:]
+    return beginning + b"".join(bounded_record(rng) for _ in range(rng.randint(0, 3))) + end
 
 
 def random_sheet(rng):
@@ -106,15 +117,18 @@ def random_sheet(rng):
 SHIPPED_SHEET = sheet_of(SHIPPED)
 
 
+def well_formed(rng):
+    return SHIPPED_SHEET if rng.random() < 0.01 else sheet_of(made_groups(rng))
+
+
 def well_formed_sheets(batch):
     rng = random.Random(f"well-formed sheets {batch}")
-    return [(CHECK, sheet_of(made_groups(rng))) for _ in range(5000)]
+    return [(CHECK, well_formed(rng)) for _ in range(5000)]
 
 
 def damaged_sheets(batch):
     rng = random.Random(f"damaged sheets {batch}")
-    whole = [SHIPPED_SHEET if rng.random() < 0.02 else sheet_of(made_groups(rng)) for _ in range(6000)]
-    return [(CHECK, damaged(rng, sheet)) for sheet in whole]
+    return [(CHECK, damaged(rng, well_formed(rng))) for _ in range(6000)]
 
 
 def bounded_sheets(batch):
@@ -136,7 +150,7 @@ def translations(batch):
     rng = random.Random(f"translations {batch}")
     requests = []
     for _ in range(2500):
-        sheet = SHIPPED_SHEET if rng.random() < 0.01 else sheet_of(made_groups(rng))
+        sheet = well_formed(rng)
         needed = 4 * check_sheet(sheet)[1]
         if rng.random() < 0.1:
             sheet = damaged(rng, sheet)

@@ -1,4 +1,4 @@
-"""Sets of table runs for request 6: samples, runs over made sheets, tables damaged in one number."""
+"""Sets of table runs for request 6: samples, runs over made sheets and over the shipped one."""
 
 import random
 

@@ -12,8 +12,9 @@ def sample_texts(_batch):
     return [request for request, _ in samples.TEXTS]
 
 
-SEPARATORS = [b" ", b" ", b" ", b"\n", b", ", b". ", b"'", b"-", b"\0", b"1", b"42", b"@", b"[", b"`",
-              b"{", b"\x7f", b"\xff", "é".encode(), "ß".encode(), "—".encode(), "鋼".encode()]  # fmt: skip
+# The neighbours of the letters are among them, and characters of two and three bytes.
+SEPARATORS = [b" ", b" ", b" ", b"\n", b", ", b". ", b"'", b"-", b"\0", b"1", b"42", b"\xff"]
+SEPARATORS += [b"\x7f", b"@", b"[", b"`", b"{"] + [character.encode() for character in "éß—鋼"]
 
 
 def in_capitals(rng, word):

@@ -20,7 +20,8 @@ def sample_words(_batch):
 @lru_cache(maxsize=1)
 def published():
     """The published stem of each word."""
-    words, stems = ((PUBLISHED / name).read_bytes().splitlines() for name in ("voc.txt", "output.txt"))
+    words = (PUBLISHED / "voc.txt").read_bytes().splitlines()
+    stems = (PUBLISHED / "output.txt").read_bytes().splitlines()
     assert len(words) == len(stems) == 30428
     return dict(zip(words, stems))
 
@@ -66,7 +67,7 @@ def made_word(rng):
 
 
 def damaged(rng, word):
-    """One to three bytes are put for others, or in between: any, often a neighbour of the letters."""
+    """One to three bytes are put in, or for others: any, often a neighbour of the letters."""
     word = bytearray(word)
     for _ in range(rng.randint(1, 3)):
         byte = rng.choice((rng.randrange(256), rng.choice(b"`{@[AZ09 '\0\x7f\xff")))
