@@ -5,7 +5,13 @@ from collections import Counter
 from probing import NEXT, answer_of, coded_answer, coded_request, decoded, through_probe
 
 SHOWN = 3  # differences of a set that are shown
-WHOLE = 4000  # characters of a request or an answer that are shown
+WHOLE = 9000  # characters of a request or an answer that are shown: a word is shown whole
+
+
+def first_difference(got, wanted):
+    """Where two answers begin to differ, for answers too long to be shown whole."""
+    place = next((at for at, pair in enumerate(zip(got, wanted)) if pair[0] != pair[1]), len(got))
+    return f"from byte {place} on {got[place : place + 40]} is not {wanted[place : place + 40]}"
 
 
 class Result:
@@ -58,12 +64,10 @@ class Set:
             at += len(coded)
             third = self.third(request) if self.third else None
             if got != coded or third not in (None, answer):
-                result.differs(
-                    f"request {request}",
-                    f"probe   {decoded(request, got)}",
-                    f"second  {answer}",
-                    *([f"third   {third}"] if third else []),
-                )
+                lines = [f"request {request}", f"probe   {decoded(request, got)}"]
+                lines += [f"second  {answer}"] + ([f"third   {third}"] if third else [])
+                lines += [f"probe's {first_difference(got, coded)}"] if got != coded else []
+                result.differs(*lines)
         if not alone and at < len(wrote):
             result.differs(f"probe wrote {len(wrote) - at} bytes more than the answers have")
         return result
