@@ -160,8 +160,8 @@ int main(int count, char **arguments)
     for (size_t program = 0; program < PROGRAMS; program++) {
         qsort(times[program], rounds, sizeof(double), by_size);
         double median = times[program][rounds / 2];
-        printf("%-11s %7.1f ns a word, %.2f times plain C -O2\n", programs[program].name, median,
-               median / times[0][rounds / 2]);
+        printf("%-11s %7.1f ns a word (best round %.1f), %.2f times plain C -O2\n",
+               programs[program].name, median, times[program][0], median / times[0][rounds / 2]);
     }
     return 0;
 }
