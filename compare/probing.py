@@ -1,0 +1,73 @@
+"""The requests of the program `probe` and their answers, as bytes and as the second program's.
+
+A request is a tuple of its byte and its arguments, such as `(1, b"cats")`. Its answer is the tuple
+that the second program gives for it, such as `(0, 3, b"cat ")`. As bytes, a number is 4 bytes,
+little-endian; an argument is a number n and then n bytes; a table is an argument of two bytes for
+each of its numbers.
+"""
+
+import struct
+import subprocess
+from pathlib import Path
+
+import second
+
+HERE = Path(__file__).resolve().parent
+PROBE = [HERE / "emulate", HERE.parent / "target/bin/probe"]
+
+WORD, TEXT, NEXT, CHECK, TRANSLATE, RUN = range(1, 7)
+ENDED = b"\xff"  # what probe writes at a request that is cut short, unknown or over its bounds
+
+BY_SECOND = {
+    WORD: second.word_stem,
+    TEXT: second.text_run,
+    NEXT: second.next_word,
+    CHECK: second.check_sheet,
+    TRANSLATE: second.translate_sheet,
+    RUN: second.table_run,
+}
+
+
+def answer_of(request):
+    """The second program's answer."""
+    return BY_SECOND[request[0]](*request[1:])
+
+
+def raw(value):
+    """The bytes of a number, a table, or bytes."""
+    if isinstance(value, int):
+        return struct.pack("<I", value)
+    if isinstance(value, list):
+        return struct.pack(f"<{len(value)}H", *value)
+    return value
+
+
+def coded_argument(argument):
+    if isinstance(argument, int):  # a number alone
+        return raw(argument)
+    return raw(len(raw(argument))) + raw(argument)
+
+
+def coded_request(request):
+    return bytes([request[0]]) + b"".join(map(coded_argument, request[1:]))
+
+
+def coded_answer(request, answer):
+    if request[0] == NEXT:  # it returns no number of 01's list
+        return b"".join(map(raw, answer))
+    return bytes([answer[0]]) + b"".join(map(raw, answer[1:]))
+
+
+def decoded(request, coded):
+    """The answer that these bytes are, for a reader; the bytes themselves if they are too few."""
+    values = 2 if request[0] in (TEXT, NEXT) else 1
+    first = 0 if request[0] == NEXT else 1
+    if len(coded) < first + 4 * values:
+        return coded
+    place = coded[first + 4 * values :]
+    return (*coded[:first], *struct.unpack_from(f"<{values}I", coded, first), place)
+
+
+def through_probe(coded):
+    """All that one run of probe writes for this input."""
+    return subprocess.run(PROBE, input=coded, stdout=subprocess.PIPE, check=True).stdout

@@ -1,0 +1,33 @@
+"""The text run."""
+
+import re
+
+from second.words import word_stem
+
+WORD = re.compile(b"[A-Za-z]+")
+
+
+def next_word(text, start):
+    """Request 3: offset and length of the next word from `start` on; where none follows, the
+    text's length and 0."""
+    found = WORD.search(text, start)
+    return (found.start(), len(found[0])) if found else (len(text), 0)
+
+
+def text_run(text):
+    """Request 2: number, words stemmed, words left, the text."""
+    if len(text) > 65536:
+        return 5, 0, 0, text
+    stemmed = left = 0
+
+    def rewritten(found):
+        nonlocal stemmed, left
+        number, _, place = word_stem(found[0].lower())
+        if number != 0:
+            left += 1
+            return found[0]
+        stemmed += 1
+        return place
+
+    text = WORD.sub(rewritten, text)
+    return 0, stemmed, left, text

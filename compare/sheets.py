@@ -1,0 +1,169 @@
+"""Sets of sheets for requests 4 and 5: samples, well-formed, damaged and random sheets, sheets at
+01's bounds, translations."""
+
+import random
+import struct
+
+import samples
+from probing import CHECK, TRANSLATE
+from second.groups import REPLACE, SINGLE_LETTER, Group, Rule
+from second.sheets import END, GROUP, RULE, check_sheet, record, sheet_of
+from second.words import SHIPPED
+from sets import Set
+
+
+def sample_sheets(_batch):
+    return [request for request, _ in samples.SHEETS]
+
+
+def made_letters(rng, longest):
+    """Letters from a few, so that endings meet and are tails of each other."""
+    return bytes(rng.choice(b"aelsy") for _ in range(rng.randint(0, longest)))
+
+
+def made_ending(rng, earlier):
+    """New, or an earlier one again, or one that shares a tail with an earlier one."""
+    if not earlier or rng.random() < 0.4:
+        return made_letters(rng, rng.choice((0, 1, 2, 3, 3, 12)))
+    ending = rng.choice(earlier)
+    return (made_letters(rng, rng.choice((0, 1, 2))) + ending[rng.randint(0, len(ending)) :])[-12:]
+
+
+def made_rule(rng, earlier):
+    if rng.random() < 0.1:
+        return Rule(rng.choice((5, 8)), SINGLE_LETTER, rng.randint(0, 1), b"", b"")
+    replacement = made_letters(rng, rng.choice((0, 0, 1, 2, 3, 12)))
+    ending = made_ending(rng, earlier)
+    return Rule(rng.randint(0, 8), REPLACE, rng.randint(0, 1), ending, replacement)
+
+
+def made_groups(rng):
+    """Groups within 01's bounds: mostly a few, now and then as many as are allowed."""
+    count = rng.choice((4, 5, 8, 16, 16) if rng.random() < 0.1 else (0, 1, 2, 2, 3))
+    most_rules = rng.choice((2, 4, 8)) if rng.random() < 0.98 else 128 // max(1, count)
+    groups = []
+    for index in range(count):
+        rules = []
+        for _ in range(rng.randint(0, most_rules)):
+            rules.append(made_rule(rng, [rule.ending for rule in rules]))
+        groups.append(Group(rng.randint(0, 1) if index else 0, rules))
+    return groups
+
+
+def damaged(rng, sheet):
+    """One to three bytes are changed, put in or taken out; or the sheet is cut."""
+    sheet = bytearray(sheet)
+    for _ in range(rng.choice((1, 1, 1, 2, 3))):
+        place = rng.randint(0, len(sheet))
+        byte = rng.choice((rng.randrange(256), rng.randrange(14), *rng.choices(b"aelsz`{", k=2)))
+        shape = rng.random()
+        if shape < 0.7:
+            sheet[place : place + 1] = bytes([byte])
+        elif shape < 0.8:
+            sheet[place:place] = bytes([byte])
+        elif shape < 0.9:
+            del sheet[place : place + 1]
+        else:
+            del sheet[place:]
+    return bytes(sheet)
+
+
+def rule_body(rng):
+    """A body of kind 2 whose parts lie at 01's bounds, on either side."""
+    ending = rng.choice((b"a", b"z")) * rng.choice((0, 0, 1, 12, 13))
+    replacement = rng.choice((b"a", b"z")) * rng.choice((0, 0, 1, 12, 13))
+    condition, action = rng.choice((0, 5, 8, 9)), rng.choice((0, 0, 0, 1, 2))
+    opens = rng.choice((0, 0, 1, 1, 2))
+    n = len(ending) + rng.choice((0, 0, 0, 0, 1, -len(ending)))
+    whole = bytes([condition, action, opens, n]) + ending + replacement
+    return whole[:3] if rng.random() < 0.1 else whole
+
+
+GATES = [b"\0\0", b"\0\0", b"\1\0", b"\2\0", b"\0\1", b"\0", b"\0\0\0"]
+
+
+def bounded_record(rng):
+    """A record of any kind whose parts lie at 01's bounds, on either side."""
+    kind = rng.choice((GROUP, GROUP, RULE, RULE, RULE, RULE, END, 0, 4, 258))
+    if kind == GROUP:
+        return record(kind, rng.choice(GATES))
+    if kind == RULE:
+        return record(kind, rule_body(rng))
+    return record(kind, rng.choice((b"", b"", b"\0")))
+
+
+def at_bounds(rng):
+    """Records at the bounds behind a well-formed beginning, which now and then has all the groups
+    or all the rules that a sheet may have."""
+    groups = made_groups(rng)
+    if rng.random() < 0.05:
+        groups = [Group(0, [])] * rng.choice((14, 15, 16))
+    elif rng.random() < 0.05:
+        groups = [Group(0, SHIPPED[4].rules[:1] * rng.choice((126, 127, 128)))]
+    sheet = sheet_of(groups)
+    beginning, end = sheet[:-4], sheet[-4:]
+    return beginning + b"".join(bounded_record(rng) for _ in range(rng.randint(0, 3))) + end
+
+
+def random_sheet(rng):
+    """Random bytes behind random heads of small numbers."""
+    sheet = b""
+    for _ in range(rng.randint(0, 3)):
+        sheet += struct.pack("<HH", rng.randrange(8), rng.randrange(5))
+        sheet += bytes(rng.randrange(256) for _ in range(rng.randrange(8)))
+    return sheet
+
+
+SHIPPED_SHEET = sheet_of(SHIPPED)
+
+
+def well_formed(rng):
+    return SHIPPED_SHEET if rng.random() < 0.01 else sheet_of(made_groups(rng))
+
+
+def well_formed_sheets(batch):
+    rng = random.Random(f"well-formed sheets {batch}")
+    return [(CHECK, well_formed(rng)) for _ in range(5000)]
+
+
+def damaged_sheets(batch):
+    rng = random.Random(f"damaged sheets {batch}")
+    return [(CHECK, damaged(rng, well_formed(rng))) for _ in range(6000)]
+
+
+def bounded_sheets(batch):
+    rng = random.Random(f"sheets at bounds {batch}")
+    return [(CHECK, at_bounds(rng)) for _ in range(6000)]
+
+
+def random_sheets(batch):
+    rng = random.Random(f"random sheets {batch}")
+    return [(CHECK, random_sheet(rng)) for _ in range(6000)]
+
+
+def made_table(rng, numbers):
+    return [rng.randrange(65536) for _ in range(max(0, numbers))]
+
+
+def translations(batch):
+    """Into tables that are just long enough, longer, or too short; some from faulty sheets."""
+    rng = random.Random(f"translations {batch}")
+    requests = []
+    for _ in range(2500):
+        sheet = well_formed(rng)
+        needed = 4 * check_sheet(sheet)[1]
+        if rng.random() < 0.1:
+            sheet = damaged(rng, sheet)
+        length = needed + rng.choice((0, 0, 0, 1, 7, -1, -4, -needed))
+        requests.append((TRANSLATE, sheet, made_table(rng, length)))
+    return requests
+
+
+SETS = [
+    Set("samples", 1, sample_sheets),
+    Set("well-formed", 10, well_formed_sheets),
+    Set("damaged", 12, damaged_sheets),
+    Set("at the bounds", 8, bounded_sheets),
+    Set("random", 8, random_sheets),
+    Set("translations", 10, translations),
+]

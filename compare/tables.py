@@ -1,0 +1,81 @@
+"""Sets of table runs for request 6: samples, runs over made sheets and over the shipped one."""
+
+import random
+
+import samples
+from probing import RUN
+from second.groups import read_group, run_groups
+from second.sheets import Faulty, read_sheet, sheet_of
+from second.tables import nodes_of
+from sets import Set
+from sheets import SHIPPED_SHEET, damaged, made_groups, made_letters
+from words import damaged as damaged_word
+from words import made_part, made_word
+
+
+def sample_runs(_batch):
+    return [request for request, _ in samples.TABLES]
+
+
+def word_for(rng, groups):
+    """A word that often ends with an ending of the sheet, or with several."""
+    endings = [rule.ending for group in groups for rule in group.rules] or [b""]
+    part = rng.choice((made_letters(rng, 3), made_part(rng, rng.randint(0, 6)), made_word(rng)))
+    word = part + b"".join(rng.choice(endings) for _ in range(rng.randint(0, 3)))
+    return damaged_word(rng, word) if rng.random() < 0.04 else word
+
+
+def lent_table(rng, made):
+    """Right, with more behind it, one short, or with one number changed."""
+    shape = rng.random()
+    if shape < 0.6 or not made:
+        return made
+    if shape < 0.85:
+        return made + [rng.randrange(65536) for _ in range(rng.randint(1, 9))]
+    if shape < 0.88:
+        return made[:-1]
+    place = rng.randrange(len(made))
+    changed = made[place] ^ rng.choice((1, 2, 256, 32768))
+    return made[:place] + [changed] + made[place + 1 :]
+
+
+def made_runs(batch):
+    """Each sheet with several words and tables."""
+    rng = random.Random(f"table runs {batch}")
+    requests = []
+    while len(requests) < 5000:
+        groups = made_groups(rng)
+        sheet, made = sheet_of(groups), sum(nodes_of(groups), [])
+        for _ in range(8):
+            faulty = rng.random() < 0.02
+            lent = damaged(rng, sheet) if faulty else sheet
+            requests.append((RUN, lent, lent_table(rng, made), word_for(rng, groups)))
+    return requests
+
+
+def shipped_runs(batch):
+    """The shipped sheet and its table, on made words."""
+    rng = random.Random(f"shipped runs {batch}")
+    made = sum(nodes_of(read_sheet(SHIPPED_SHEET)), [])
+    return [(RUN, SHIPPED_SHEET, made, made_word(rng)) for _ in range(1000)]
+
+
+def by_rules(request):
+    """The third way: the groups read by their rules, without a table, where the sheet and the table
+    are in order. The walk of a table has to read every group as its rules do."""
+    _, sheet, table, word = request
+    try:
+        groups = read_sheet(sheet)
+    except Faulty:
+        return None
+    made = sum(nodes_of(groups), [])
+    if table[: len(made)] != made:
+        return None
+    return run_groups(groups, lambda index, stem: read_group(groups[index], stem), word)
+
+
+SETS = [
+    Set("samples", 1, sample_runs, by_rules),
+    Set("made", 24, made_runs, by_rules),
+    Set("shipped", 4, shipped_runs, by_rules),
+]

@@ -1,0 +1,57 @@
+// Reading the parts of a request. `io::read_full` reads on after a short read, so a slow pipe gives
+// the same requests as a file.
+use libc::STDIN_FILENO;
+ghost use Prim.Native.Nat.{_<_};
+ghost use Rattle.io.specs.Counts.{Counts};
+
+// How a request starts.
+pub enum Start {
+    With(u8),
+    Ended,
+}
+
+pub fn first_byte() -> Start {
+    let mut one = [0u8; 1];
+    if io::read_full(STDIN_FILENO, &mut one) < 1 {
+        return Start::Ended;
+    }
+    Start::With(one[0])
+}
+
+// An argument that was read: how many bytes of it came, and whether that is all of it.
+pub struct Argument {
+    pub length: usize,
+    pub whole: bool,
+}
+
+// The next argument, put at the start of `space`. It is not whole if the input ends in it, or if it
+// is longer than `space`, which is as long as such an argument may be.
+pub fn read(space: &mut [u8]) -> Argument
+    ensures { λ r. ⌜ Counts (r .length) (now (space .exit)) ⌝ }
+{
+    let mut four = [0u8; 4];
+    let got = io::read_full(STDIN_FILENO, &mut four);
+    let wanted = number(&four);
+    if got < 4 || wanted > space.len() {
+        return Argument {
+            length: 0,
+            whole: false,
+        };
+    }
+    let length = io::read_full(STDIN_FILENO, &mut space[..wanted]);
+    Argument {
+        length: length,
+        whole: length == wanted,
+    }
+}
+
+// The number that four bytes make, the lowest first.
+fn number(four: &[u8; 4]) -> usize {
+    wide(four[0]) + 256 * (wide(four[1]) + 256 * (wide(four[2]) + 256 * wide(four[3])))
+}
+
+fn wide(b: u8) -> usize
+    ensures { λ r. ⌜ r < 256 ⌝ }
+{
+    b as usize
+}
