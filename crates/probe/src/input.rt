@@ -45,6 +45,21 @@ pub fn read(space: &mut [u8]) -> Argument
     }
 }
 
+// A number that was read, as a place in a text, and whether all of its four bytes came.
+pub struct Place {
+    pub value: usize,
+    pub whole: bool,
+}
+
+pub fn read_place() -> Place {
+    let mut four = [0u8; 4];
+    let got = io::read_full(STDIN_FILENO, &mut four);
+    Place {
+        value: number(&four),
+        whole: got == 4,
+    }
+}
+
 // The number that four bytes make, the lowest first.
 fn number(four: &[u8; 4]) -> usize {
     wide(four[0]) + 256 * (wide(four[1]) + 256 * (wide(four[2]) + 256 * wide(four[3])))

@@ -6,6 +6,7 @@
 // byte 255 and ends.
 mod input;
 mod output;
+mod text;
 mod word;
 
 use input::Start;
@@ -14,6 +15,8 @@ use input::Start;
 fn answered(kind: u8) -> bool {
     match kind {
         1 => word::answered(),
+        2 => text::answered_run(),
+        3 => text::answered_next(),
         _ => false,
     }
 }
