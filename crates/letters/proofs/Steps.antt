@@ -1,9 +1,12 @@
 -- One letter more in a forward scan. Assumes nothing.
-use Prim.Native.Nat.{ℕ, zero, suc, _+_, _<_, _≤_}
+use Prim.Native.Nat.{ℕ, zero, suc, _+_, _^_, _<_, _≤_}
+use native.Mathlib.Numerals.{add-one}
 use native.Mathlib.Omega.{arith}
-use mathlib.Core.Path.{_≡_, refl, ap, sym, _∙_}
+use mathlib.Core.Path.{_≡_, refl, ap, sym, subst, _∙_}
 use mathlib.Core.Bool.{Bool, true, false, cond, _||_}
 use lib.Dec.{eqb}
+use lib.ListN.{length, take, drop, getD, take-append-drop}
+use lib.Seq.{take-suc, take-all}
 use mathlib.Core.List.{List, [], _∷_, _++_}
 use Rattle.paper.specs.Letters.{
   Class,
@@ -14,16 +17,13 @@ use Rattle.paper.specs.Letters.{
   isVowel,
   vowelAfter,
   classAfter,
-  inward,
-  classOf,
   classAt,
   rise,
-  rises,
   measure as measureOf,
 }
-use Rattle.paper.specs.Conditions.{someVowel, *v*}
-use Rattle.paper.specs.LettersLaws.{classAt-more, classAt-earlier, measure-more, vowel-more}
-use Rattle.letters.specs.Scan.{beforeRow, rowAfter, classNumber, Scanned}
+use Rattle.paper.specs.Conditions.{*v*}
+use Rattle.paper.specs.LettersLaws.{classAt-more, classAt-earlier, measure-more, vowel-more, measure-grows, vowel-stays}
+use Rattle.letters.specs.Scan.{beforeRow, rowAfter, classNumber, classTable, Scanned}
 use Rattle.letters.specs.declared.Passed.{Passed}
 
 -- of the letter before, only whether it is a consonant counts
@@ -84,11 +84,6 @@ module _ (part : List ℕ) (s : Passed) (h : Scanned part s) (l : ℕ) where
         row = rw (classAt-more, k);
       }
 
-pub none-passed :
-    Scanned [] (record { measure = 0; found = false; last = 0; second = 0; third = 0; row = 0 })
-unfolding measureOf rises inward *v* someVowel classAt classOf rowAfter
-none-passed = record { measure = refl; found = refl; last = refl; second = refl; third = refl; row = refl }
-
 row-below : (preceding : Class) → rowAfter preceding < 2
 unfolding rowAfter
 row-below none = omega arith
@@ -111,3 +106,49 @@ vowel-number vowel = refl
 -- a number that is at least k, and not k
 pub beyond : {n : ℕ} (k : ℕ) → k ≤ n → (n ≡ k → ⊥) → k + 1 ≤ n
 beyond k low other = omega arith
+
+-- ══ The loop of a scan ══
+
+-- at the loop's head: so many letters were passed
+abbrev pub Passing : List ℕ → List (List Bool) → Passed → ℕ → Type 0
+Passing part table s i = (i ≤ length part) × (table ≡ classTable) × (s .measure ≤ i) × Scanned (take i part) s
+
+-- what one step asks, and what it gives
+pub step-asks :
+    (part : List ℕ) (table : List (List Bool)) (s : Passed) (i : ℕ)
+    → Passing part table s i
+    → length part < 2 ^ 63
+    → (table ≡ classTable) × ((s .row < 2) × (s .measure < 2 ^ 63))
+step-asks part table s i passing short = (passing .1, (row-small (take i part) s (passing .3), omega arith))
+
+pub step-gives :
+    (part : List ℕ) (table : List (List Bool)) (s after : Passed) (i : ℕ)
+    → i < length part
+    → Passing part table s i
+    → after .measure ≤ s .measure + 1
+    → ((passed : List ℕ) → Scanned passed s → Scanned (passed ++ getD part i 0 ∷ []) after)
+    → Passing part table after (i + 1)
+step-gives part table s after i inside passing more scanned =
+    let next : take (i + 1) part ≡ take i part ++ getD part i 0 ∷ [] = rw add-one (take-suc part i 0 inside) in
+    (omega arith, passing .1, omega arith, rw next (scanned (take i part) (passing .3)))
+
+-- the whole part was passed
+pub all-passed :
+    (part : List ℕ) (table : List (List Bool)) (s : Passed) (i : ℕ) → length part ≤ i → Passing part table s i → Scanned part s
+all-passed part table s i end passing =
+    subst (λ (passed : List ℕ). Scanned passed s) (take-all i part end) (passing .3)
+
+-- what is known of the letters passed is known of the whole part
+pub measure-passed :
+    (part : List ℕ) (table : List (List Bool)) (s : Passed) (i : ℕ) → Passing part table s i → s .measure ≤ measureOf part
+measure-passed part table s i passing =
+    let grows = rw take-append-drop at (measure-grows (take i part) (drop i part)) in
+    omega (arith, passing .3 .measure, grows)
+
+pub vowel-passed :
+    (part : List ℕ) (table : List (List Bool)) (s : Passed) (i : ℕ)
+    → Passing part table s i
+    → s .found ≡ true
+    → *v* part ≡ true
+vowel-passed part table s i passing found =
+    rw take-append-drop at (vowel-stays (take i part) (drop i part) (sym (passing .3 .found) ∙ found))

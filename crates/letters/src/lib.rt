@@ -3,6 +3,7 @@
 ghost use mathlib.Core.Path.{_≡_};
 ghost use mathlib.Core.Bool.{Bool, _||_};
 ghost use mathlib.Core.List.{List, [], _∷_, _++_};
+ghost use lib.Dec.{ltb};
 ghost use Prim.Native.Nat.{ℕ, _+_, _<_, _≤_, _^_};
 ghost use Rattle.paper.specs.Letters.{vowelAfter, letterAt, measure as measureOf};
 ghost use Rattle.paper.specs.Conditions.{*v*, *d, *o, lastIs, holds as holdsOf};
@@ -135,24 +136,65 @@ fn step(table: &[[bool; 26]; 2], s: Passed, letter: u8) -> Passed
     }
 }
 
-fn scan(part: &[u8]) -> Passed
-    ensures { λ r. ⌜ Scanned (now (part .entry)) r ⌝ }
+// Before the first letter.
+fn nothing_passed() -> Passed
+    ensures { λ r. ⌜ (r .measure ≡ 0) × Scanned [] r ⌝ }
 {
-    let table = &CLASS;
-    let mut s = Passed {
+    Passed {
         measure: 0,
         found: false,
         last: 0,
         second: 0,
         third: 0,
         row: 0,
-    };
+    }
+}
+
+fn scan(part: &[u8]) -> Passed
+    ensures { λ r. ⌜ Scanned (now (part .entry)) r ⌝ }
+{
+    let table = &CLASS;
+    let mut s = nothing_passed();
     let mut i = 0;
     while i < part.len() {
         s = step(table, s, part[i]);
         i += 1;
     }
     s
+}
+
+// Whether the measure is above k. The scan stops where it is known.
+fn above(part: &[u8], k: usize) -> bool
+    ensures { λ r. ⌜ r ≡ ltb k (measureOf (now (part .entry))) ⌝ }
+{
+    let table = &CLASS;
+    let mut s = nothing_passed();
+    let mut i = 0;
+    while i < part.len() {
+        s = step(table, s, part[i]);
+        if k < s.measure {
+            return true;
+        }
+        i += 1;
+    }
+    false
+}
+
+// Whether some letter is a vowel. The scan stops at the first.
+fn has_vowel(part: &[u8]) -> bool
+    ensures { λ r. ⌜ r ≡ *v* (now (part .entry)) ⌝ }
+{
+    let table = &CLASS;
+    let mut s = nothing_passed();
+    let mut i = 0;
+    while i < part.len() {
+        s = step(table, s, part[i]);
+        if s.found {
+            return true;
+        }
+        i += 1;
+    }
+    false
 }
 
 pub fn measure(part: &[u8]) -> usize
@@ -190,17 +232,14 @@ fn short(part: &[u8], s: Passed) -> bool
         & !((last == 119) | ((last == 120) | (last == 121)))
 }
 
+// The conditions that ask for more than the measure or a vowel.
 fn judged(condition: u8, part: &[u8], s: Passed) -> bool
-    requires { ⌜ Scanned (now part) s ⌝ }
+    requires { ⌜ (4 ≤ condition) × Scanned (now part) s ⌝ }
     ensures { λ r. ⌜ r ≡ holdsOf condition (now (part .entry)) ⌝ }
 {
     let last = letter_at(part, 0);
     let m = s.measure;
     match condition {
-        0 => true,
-        1 => 0 < m,
-        2 => 1 < m,
-        3 => s.found,
         4 => (1 < m) & ((last == 115) | (last == 116)),
         5 => double(part, s) & !((last == 108) | ((last == 115) | (last == 122))),
         6 => (m == 1) & short(part, s),
@@ -214,16 +253,21 @@ fn judged(condition: u8, part: &[u8], s: Passed) -> bool
 pub fn holds(condition: u8, part: &[u8]) -> bool
     ensures { λ r. ⌜ r ≡ holdsOf condition (now (part .entry)) ⌝ }
 {
-    if condition == 0 {
-        return true;
-    }
-    // Condition 8 is asked of every word, and few end in l.
-    if condition == 8 {
-        if letter_at(part, 0) != 108 {
-            return false;
+    match condition {
+        0 => true,
+        1 => above(part, 0),
+        2 => above(part, 1),
+        3 => has_vowel(part),
+        _ => {
+            // Condition 8 is asked of every word, and few end in l.
+            if condition == 8 {
+                if letter_at(part, 0) != 108 {
+                    return false;
+                }
+            }
+            judged(condition, part, scan(part))
         }
     }
-    judged(condition, part, scan(part))
 }
 
 // Whether the word ends with the ending.

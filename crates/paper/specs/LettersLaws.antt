@@ -1,12 +1,12 @@
 -- What one letter more does to the class of the last letters, the measure and `*v*`: how a forward scan follows the
 -- definitions. Assumes nothing.
-use Prim.Native.Nat.{ℕ, zero, suc, _+_, _-_, _<_}
-use native.Mathlib.Nat.{not-suc-le-zero}
+use Prim.Native.Nat.{ℕ, zero, suc, _+_, _-_, _≤_, _<_}
+use native.Mathlib.Nat.{not-suc-le-zero, le-refl, le-trans}
 use native.Mathlib.Decide.{decLt}
 use native.Mathlib.Omega.{arith}
 use mathlib.Core.Path.{_≡_, refl, ap, _∙_}
-use mathlib.Core.Bool.{Bool, true, false, cond, _||_}
-use mathlib.Core.List.{List, [], _∷_, _++_, reverse, reverse-append, reverse-cons}
+use mathlib.Core.Bool.{Bool, true, false, cond, _||_, or-true}
+use mathlib.Core.List.{List, [], _∷_, _++_, reverse, reverse-append, reverse-cons, append-nil, append-assoc}
 use lib.ListN.{length, drop, getD, length-reverse, List·getD-append}
 use lib.Seq.{getD-append-seam}
 use Rattle.paper.specs.Letters.{
@@ -75,3 +75,18 @@ letterAt-index (letter ∷ part) k h = rw reverse-cons (go (letterAt-index part 
         let i : suc (length part) - 1 - k ≡ 0 = omega arith in
         let e : k ≡ length (reverse part) = rw length-reverse (omega arith) in
         rw (i, e) (getD-append-seam (reverse part) letter [] 0)
+
+-- more letters never take away from the measure, nor a vowel
+pub measure-grows : (part more : List ℕ) → measure part ≤ measure (part ++ more)
+measure-grows part [] = rw append-nil (le-refl (measure part))
+measure-grows part (letter ∷ more) =
+    let rest = measure-grows (part ++ letter ∷ []) more in
+    let one = measure-more part letter in
+    let both : measure part ≤ measure ((part ++ letter ∷ []) ++ more) = omega (arith, one, rest) in
+    rw append-assoc at both
+
+pub vowel-stays : (part more : List ℕ) → *v* part ≡ true → *v* (part ++ more) ≡ true
+vowel-stays part [] found = rw append-nil found
+vowel-stays part (letter ∷ more) found =
+    let one : *v* (part ++ letter ∷ []) ≡ true = rw (vowel-more, found) (or-true (isVowel (classAfter (classAt 0 part) letter))) in
+    rw append-assoc at (vowel-stays (part ++ letter ∷ []) more one)

@@ -1,25 +1,30 @@
--- `letters::holds` meets its contract: without a last letter l condition 8 does not hold. Assumes nothing.
+-- `letters::holds` meets its contract; without a last letter l condition 8 does not hold. Assumes nothing.
 use borrow.Author.Needs.{needs}
-use mathlib.Core.Path.{_≡_, sym, _∙_}
-use mathlib.Core.Bool.{and-false}
 use borrow.Author.Tests.{ne-eqb}
+use native.Mathlib.Omega.{arith}
+use mathlib.Core.Path.{_≡_, _∙_}
+use mathlib.Core.Bool.{and-false}
 use Rattle.paper.specs.Conditions.{lastIs, conditions, holds}
 use Rattle.letters.proofs.holds.Statement.{statement}
 use Rattle.letters.proofs.holds.Tie as tie
 
-returns : tie.Need-returns
-unfolding holds conditions
-returns c = rw (c .if1 .taken)
+above-requires : tie.Need-above-requires
+above-requires c κs = search needs
+
+above-requires-2 : tie.Need-above-requires-2
+above-requires-2 c κs = search needs
+
+has-vowel-requires : tie.Need-has-vowel-requires
+has-vowel-requires c κs = search needs
 
 letter-at-requires : tie.Need-letter-at-requires
 letter-at-requires c κs = search needs
 
-returns-2 : tie.Need-returns-2
+returns : tie.Need-returns
 unfolding holds conditions lastIs
-returns-2 c =
-    let start = c .before .before .before .before .before in
-    let no-l = ne-eqb _ _ (c .if3 .taken) in
-    rw (c .before .before .if2 .taken) (simp (← c .before .letter-at .ensures, no-l, and-false))
+returns c =
+    let no-l = ne-eqb _ _ (c .if2 .taken) in
+    rw (c .before .before .if1 .taken) (simp (← c .before .letter-at .ensures, no-l, and-false))
 
 scan-requires : tie.Need-scan-requires
 scan-requires c κs = search needs
@@ -27,10 +32,38 @@ scan-requires c κs = search needs
 judged-requires : tie.Need-judged-requires
 judged-requires c κs = search needs
 
+returns-2 : tie.Need-returns-2
+unfolding holds conditions lastIs
+returns-2 c = rw (c .match .keys1)
+
 returns-3 : tie.Need-returns-3
-returns-3 c = search needs
+unfolding holds conditions lastIs
+returns-3 c = rw (c .before .match .keys2) (c .above .ensures)
+
+returns-4 : tie.Need-returns-4
+unfolding holds conditions lastIs
+returns-4 c = rw (c .before .match .keys3) (c .above2 .ensures)
+
+returns-5 : tie.Need-returns-5
+unfolding holds conditions lastIs
+returns-5 c = rw (c .before .match .keys4) (c .has-vowel .ensures)
+
+returns-6 : tie.Need-returns-6
+returns-6 c = search needs
 
 pub holds-spec : {M : Type 1} → statement M
 holds-spec =
     tie.close
-    (tie.spec returns letter-at-requires returns-2 scan-requires judged-requires returns-3)
+    (tie.spec
+    above-requires
+    above-requires-2
+    has-vowel-requires
+    letter-at-requires
+    returns
+    scan-requires
+    judged-requires
+    returns-2
+    returns-3
+    returns-4
+    returns-5
+    returns-6)

@@ -1,0 +1,78 @@
+-- `letters::has_vowel` meets its contract: letters that follow take no vowel away. Assumes nothing.
+use Prim.Native.Nat.{ℕ, _+_, _-_, _≤_, _<_}
+use borrow.Author.Needs.{needs}
+use native.Mathlib.Omega.{arith}
+use mathlib.Core.Path.{_≡_, refl, sym, _∙_}
+use mathlib.Core.Bool.{false}
+use lib.ListN.{length}
+use Rattle.paper.specs.Letters.{letters, among, vowelAfter, inward}
+use Rattle.paper.specs.Conditions.{someVowel, *v*}
+use Rattle.letters.specs.Scan.{alphabet, classTable}
+use Rattle.letters.proofs.Steps.{Passing, step-asks, step-gives, all-passed, vowel-passed}
+use Rattle.letters.proofs.has_vowel.Statement.{statement}
+use Rattle.letters.proofs.has_vowel.Tie as tie
+
+abbrev Inv-loop : tie.InvT-loop
+Inv-loop part table s₀ i₀ s i = Passing part table s i × (s .found ≡ false)
+
+abbrev μ-loop : tie.MeasureT-loop
+μ-loop part table s₀ i₀ s i = length part - i
+
+nothing-passed-requires : tie.Need-nothing-passed-requires Inv-loop μ-loop
+nothing-passed-requires c κs = search needs
+
+loop-holds : tie.Need-loop-holds Inv-loop μ-loop
+unfolding classTable alphabet letters vowelAfter among *v* someVowel inward
+loop-holds c =
+    let made = c .nothing-passed .ensures in
+    ((omega arith, refl, omega (arith, made .0), made .1), made .1 .found)
+
+shared-slice-read-step : tie.Need-shared-slice-read-step Inv-loop μ-loop
+shared-slice-read-step c = omega arith
+
+step-requires : tie.Need-step-requires Inv-loop μ-loop
+step-requires c κs =
+    let at = c .before .before .loop in
+    step-asks (c .before .before .before .before .before .before .args .part .now) _ (at .s) (at .i) (at .inv .0) (omega arith)
+
+returns : tie.Need-returns Inv-loop μ-loop
+returns c =
+    let at = c .before .before .before .before .loop in
+    let ran = c .before .step in
+    let passing = step-gives (c .before .before .before .before .before .before .before .before .args .part .now) _ (at .s) (ran .result) (at .i) (c .before .before .before .loop-test .taken) (at .inv .0) (ran .ensures .0) (ran .ensures .1) in
+    sym (vowel-passed (c .before .before .before .before .before .before .before .before .args .part .now) _ (ran .result) (at .i + 1) passing (c .if1 .taken))
+
+add-i : tie.Need-add-i Inv-loop μ-loop
+add-i c = omega arith
+
+loop-less : tie.Need-loop-less Inv-loop μ-loop
+loop-less c = omega arith
+
+loop-again : tie.Need-loop-again Inv-loop μ-loop
+loop-again c =
+    let at = c .before .before .before .before .loop in
+    let ran = c .before .step in
+    let passing = step-gives (c .before .before .before .before .before .before .before .before .args .part .now) _ (at .s) (ran .result) (at .i) (c .before .before .before .loop-test .taken) (at .inv .0) (ran .ensures .0) (ran .ensures .1) in
+    (passing, c .if1 .left)
+
+returns-2 : tie.Need-returns-2 Inv-loop μ-loop
+returns-2 c =
+    let at = c .before .loop in
+    let all = all-passed (c .before .before .before .before .before .args .part .now) _ (at .s) (at .i) (c .loop-test .left) (at .inv .0) in
+    sym (at .inv .1) ∙ all .found
+
+pub has-vowel-spec : {M : Type 1} → statement M
+has-vowel-spec =
+    tie.close
+    (tie.spec
+    Inv-loop
+    μ-loop
+    nothing-passed-requires
+    loop-holds
+    shared-slice-read-step
+    step-requires
+    returns
+    add-i
+    loop-less
+    loop-again
+    returns-2)
