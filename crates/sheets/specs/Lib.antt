@@ -1,2 +1,7 @@
--- Document 01, "The sheet".
+-- Document 01, "The sheet", and of "The table" the node count.
 pub mod Nodes
+pub mod Records
+pub mod Sheets
+pub mod Bytes
+pub mod Answers
+pub mod Tests
