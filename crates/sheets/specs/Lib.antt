@@ -5,3 +5,7 @@ pub mod Sheets
 pub mod Bytes
 pub mod Answers
 pub mod Tests
+pub mod RecordLaws
+pub mod ByteLaws
+pub mod RuleLaws
+pub mod WrittenRules
