@@ -9,3 +9,6 @@ pub mod RecordLaws
 pub mod ByteLaws
 pub mod RuleLaws
 pub mod WrittenRules
+pub mod SheetLaws
+pub mod ReadBack
+pub mod WriteBack
