@@ -12,3 +12,6 @@ pub mod WrittenRules
 pub mod SheetLaws
 pub mod ReadBack
 pub mod WriteBack
+pub mod LookBack
+pub mod NodeLaws
+pub mod SharedTails
