@@ -15,3 +15,4 @@ pub mod WriteBack
 pub mod LookBack
 pub mod NodeLaws
 pub mod SharedTails
+pub mod Earlier

@@ -43,11 +43,11 @@ drop-as : (n m : ℕ) (l : List ℕ) → n ≡ m → drop n l ≡ drop m l
 drop-as n m l is = ap (λ (i : ℕ). drop i l) is
 
 -- the last k letters are equal
-abbrev Equal : List ℕ → List ℕ → ℕ → Type 0
+abbrev pub Equal : List ℕ → List ℕ → ℕ → Type 0
 Equal e f k = drop (length e - k) e ≡ drop (length f - k) f
 
 -- the letters before the last k are not, or one of the two has no more
-abbrev Stop : List ℕ → List ℕ → ℕ → Type 0
+abbrev pub Stop : List ℕ → List ℕ → ℕ → Type 0
 Stop e f k = k < length e → k < length f → getD e (length e - 1 - k) 0 ≡ getD f (length f - 1 - k) 0 → ⊥
 
 module _ (x : ℕ) (e f : List ℕ) (k : ℕ) where

@@ -1,11 +1,12 @@
 // The record at a place of a sheet, judged by itself. Any bytes may be given.
 ghost use mathlib.Core.Path.{_≡_};
-ghost use Prim.Native.Nat.{_+_, _*_};
 ghost use mathlib.Core.Bool.{not, _&&_, _||_};
 ghost use lib.Dec.{eqb, ltb};
 ghost use lib.ListN.{length, drop};
 ghost use Rattle.sheets.specs.Records.{outside};
 ghost use Rattle.sheets.specs.Answers.{recordIn, groupRecord, ruleRecord};
+use crate::numbers::pair;
+use crate::numbers::wide;
 
 // What a record holds. A rule's letters stand 8 bytes after the record's start: `ending` of S1, then `replacement` of S2.
 pub enum Record {
@@ -19,12 +20,6 @@ pub enum Record {
     },
     End,
     Faulty,
-}
-
-fn wide(byte: u8) -> usize
-    ensures { λ r. ⌜ r ≡ byte ⌝ }
-{
-    byte as usize
 }
 
 // Some byte is outside a to z.
@@ -42,13 +37,6 @@ fn has_other(bytes: &[u8]) -> bool
         i += 1;
     }
     false
-}
-
-// The number of two bytes.
-fn pair(low: u8, high: u8) -> usize
-    ensures { λ r. ⌜ r ≡ low + 256 * high ⌝ }
-{
-    wide(low) + 256 * wide(high)
 }
 
 fn group_in(body: &[u8]) -> Record
