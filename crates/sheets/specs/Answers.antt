@@ -19,6 +19,8 @@ use Rattle.sheets.specs.Records.{
 }
 use Rattle.sheets.specs.Sheets.{Sheet, refused, accepted, readSheet}
 use Rattle.sheets.specs.Nodes.{nodeCount}
+use Rattle.sheets.specs.declared.Checked.{Checked}
+use Rattle.sheets.specs.declared.Checked.the-variants.{Accepted, Refused}
 use Rattle.sheets.specs.declared.records.Record.{Record}
 use Rattle.sheets.specs.declared.records.Record.the-variants.{Group, Rule, End, Faulty}
 
@@ -38,3 +40,21 @@ endRecord rest = cond (faultyEnd rest) Faulty End
 unfoldable pub recordIn : List ℕ → Record
 recordIn rest =
     cond (cut rest) Faulty (byKind rest (groupRecord (body rest)) (ruleRecord (body rest)) (endRecord rest) Faulty)
+
+-- ## A check
+-- "0 .. done .. node count"; "3 .. the sheet has a faulty record .. place"
+abbrev pub numberOf : Checked → ℕ
+numberOf (Accepted nodes) = 0
+numberOf (Refused place) = 3
+
+abbrev pub valueOf : Checked → ℕ
+valueOf (Accepted nodes) = nodes
+valueOf (Refused place) = place
+
+abbrev pub answer : Sheet → Checked
+answer (refused place) = Refused place
+answer (accepted groups) = Accepted (nodeCount groups)
+
+-- what a check of a sheet answers
+unfoldable pub checked : List ℕ → Checked
+checked sheet = answer (readSheet sheet)

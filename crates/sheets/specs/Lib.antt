@@ -16,3 +16,4 @@ pub mod LookBack
 pub mod NodeLaws
 pub mod SharedTails
 pub mod Earlier
+pub mod CheckLaws

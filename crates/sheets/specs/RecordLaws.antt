@@ -3,6 +3,7 @@ use Prim.Native.Nat.{ℕ, _+_, _-_, _≤_}
 use mathlib.Core.Path.{_≡_, refl, sym, _∙_}
 use mathlib.Core.Bool.{Bool, true, false, not, cond, _||_}
 use mathlib.Core.List.{List}
+use native.Mathlib.Omega.{arith}
 use lib.Dec.{eqb, ltb}
 use lib.ListN.{length}
 use borrow.Author.Tests.{eqb-true, eq-eqb, ltb-false, not-false}
@@ -95,3 +96,62 @@ cut-by rest false whole =
 
 pub alone : (rest : List ℕ) → Alone rest
 alone rest = cut-by rest (cut rest) refl
+
+-- ## What an answer says of the record
+pub record GroupHere (rest : List ℕ) (number : ℕ) : Type 0 where
+  pub whole : cut rest ≡ false
+  pub is-group : kind rest ≡ 1
+  pub sound : faultyGroup (body rest) ≡ false
+  pub gate-is : number ≡ gateNumber (body rest)
+
+pub record RuleHere (rest : List ℕ) (s1 s2 : ℕ) : Type 0 where
+  pub whole : cut rest ≡ false
+  pub is-rule : kind rest ≡ 2
+  pub sound : faultyRule (body rest) ≡ false
+  pub ending-is : s1 ≡ length (ending (body rest))
+  pub replacement-is : s2 ≡ length (replacement (body rest))
+
+pub record EndHere (rest : List ℕ) : Type 0 where
+  pub whole : cut rest ≡ false
+  pub is-end : kind rest ≡ 3
+  pub last : length rest ≡ 4
+
+another : {P : Type 0} → _≡_ {A = ℕ} 0 1 → P
+another differs = absurd (omega arith)
+
+pub group-here : (rest : List ℕ) (number : ℕ) → recordIn rest ≡ Group number → GroupHere rest number
+group-here rest number is = by (alone rest)
+  where
+    by : Alone rest → GroupHere rest number
+    by (a-fault fault answer) = another (cc)
+    by (a-group whole kind-is sound answer) = record { whole = whole; is-group = kind-is; sound = sound; gate-is = cc }
+    by (a-rule whole kind-is sound answer) = another (cc)
+    by (an-end whole kind-is last answer) = another (cc)
+
+pub rule-here : (rest : List ℕ) (c a o s1 s2 : ℕ) → recordIn rest ≡ Rule c a o s1 s2 → RuleHere rest s1 s2
+rule-here rest c a o s1 s2 is = by (alone rest)
+  where
+    by : Alone rest → RuleHere rest s1 s2
+    by (a-fault fault answer) = another (cc)
+    by (a-group whole kind-is sound answer) = another (cc)
+    by (a-rule whole kind-is sound answer) =
+        record { whole = whole; is-rule = kind-is; sound = sound; ending-is = cc; replacement-is = cc }
+    by (an-end whole kind-is last answer) = another (cc)
+
+pub end-here : (rest : List ℕ) → recordIn rest ≡ End → EndHere rest
+end-here rest is = by (alone rest)
+  where
+    by : Alone rest → EndHere rest
+    by (a-fault fault answer) = another (cc)
+    by (a-group whole kind-is sound answer) = another (cc)
+    by (a-rule whole kind-is sound answer) = another (cc)
+    by (an-end whole kind-is last answer) = record { whole = whole; is-end = kind-is; last = last }
+
+pub fault-here : (rest : List ℕ) → recordIn rest ≡ Faulty → faultyAlone rest ≡ true
+fault-here rest is = by (alone rest)
+  where
+    by : Alone rest → faultyAlone rest ≡ true
+    by (a-fault fault answer) = fault
+    by (a-group whole kind-is sound answer) = another (cc)
+    by (a-rule whole kind-is sound answer) = another (cc)
+    by (an-end whole kind-is last answer) = another (cc)

@@ -44,12 +44,12 @@ module _ (groups rules : ℕ) (rest : List ℕ) where
   unfolding faulty
   fault-alone is = simp is
 
-  group-fault : cut rest ≡ false → kind rest ≡ 1 → faultyGroup (body rest) ≡ false
+  pub group-fault : cut rest ≡ false → kind rest ≡ 1 → faultyGroup (body rest) ≡ false
       → faulty groups rules rest ≡ misplacedGroup groups (body rest)
   unfolding faulty faultyAlone misplaced
   group-fault whole is sound = rw (whole, at-group rest (faultyGroup (body rest)) (faultyRule (body rest)) (faultyEnd rest) true is, at-group rest _ _ _ _ is, sound) refl
 
-  rule-fault : cut rest ≡ false → kind rest ≡ 2 → faultyRule (body rest) ≡ false
+  pub rule-fault : cut rest ≡ false → kind rest ≡ 2 → faultyRule (body rest) ≡ false
       → faulty groups rules rest ≡ misplacedRule groups rules
   unfolding faulty faultyAlone misplaced
   rule-fault whole is sound = rw (whole, at-rule rest (faultyGroup (body rest)) (faultyRule (body rest)) (faultyEnd rest) true is, at-rule rest _ _ _ _ is, sound) refl
@@ -123,7 +123,7 @@ module _ (groups rules : ℕ) (rest : List ℕ) where
 shorter : (rest : List ℕ) (more : ℕ) → cut rest ≡ false → length rest ≤ suc more → length (after rest) ≤ more
 shorter rest more whole enough = let h = long rest whole in rw (length-after rest) (omega arith)
 
-faulty-empty : (groups rules : ℕ) (rest : List ℕ) → length rest ≤ 0 → faulty groups rules rest ≡ true
+pub faulty-empty : (groups rules : ℕ) (rest : List ℕ) → length rest ≤ 0 → faulty groups rules rest ≡ true
 unfolding faulty faultyAlone cut
 faulty-empty groups rules [] none = refl
 faulty-empty groups rules (x ∷ rest) none = absurd (omega arith)

@@ -111,7 +111,7 @@ end-record rest whole-record is last =
     ∙ (ap (λ (b : List ℕ). recordOf 3 b ++ after rest) none ∙ ap (λ (l : List ℕ). recordOf 3 [] ++ l) no-more)
 
 -- ## What 01's counts say of a record that is in its place
-few-groups : (groups : ℕ) (rest : List ℕ) → misplacedGroup groups rest ≡ false → groups < 16
+pub few-groups : (groups : ℕ) (rest : List ℕ) → misplacedGroup groups rest ≡ false → groups < 16
 unfolding misplacedGroup
 few-groups groups rest placed =
     leb-false 16 groups (neither-right (eqb groups 0 && eqb (gateNumber rest) 1) (leb 16 groups) placed)
@@ -137,7 +137,7 @@ some-group : (groups rules : ℕ) → misplacedRule groups rules ≡ false → g
 unfolding misplacedRule
 some-group groups rules placed = eqb-false groups 0 (neither-left (eqb groups 0) (leb 128 rules) placed)
 
-few-rules : (groups rules : ℕ) → misplacedRule groups rules ≡ false → rules < 128
+pub few-rules : (groups rules : ℕ) → misplacedRule groups rules ≡ false → rules < 128
 unfolding misplacedRule
 few-rules groups rules placed = leb-false 128 rules (neither-right (eqb groups 0) (leb 128 rules) placed)
 
