@@ -7,11 +7,12 @@ ghost use Rattle.sheets.specs.Answers.{checked};
 
 mod nodes;
 mod numbers;
+pub mod reader;
 pub mod records;
 
 use nodes::longest_shared;
+use reader::draw;
 use records::Record;
-use records::record_at;
 
 // What a check answers: the nodes that the sheet's table needs, or the place where its first faulty record starts.
 pub enum Checked {
@@ -44,7 +45,7 @@ pub fn check(sheet: &[u8]) -> Checked
     let mut first = 0;
     let mut count = 0;
     while at < sheet.len() {
-        let found = record_at(sheet, at);
+        let found = draw(sheet, at);
         match found {
             Record::Group(gate) => {
                 if misplaced_group(groups, gate) {

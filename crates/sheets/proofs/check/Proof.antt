@@ -43,8 +43,8 @@ abbrev μ-loop : tie.MeasureT-loop
 loop-holds : tie.Need-loop-holds Inv-loop μ-loop
 loop-holds c = (omega arith, omega arith, omega arith, omega arith, omega arith, starts (c .before .args .sheet .now))
 
-record-at-requires : tie.Need-record-at-requires Inv-loop μ-loop
-record-at-requires c κs = tt
+draw-requires : tie.Need-draw-requires Inv-loop μ-loop
+draw-requires c κs = tt
 
 enum-known-found : tie.Need-enum-known-found Inv-loop μ-loop
 enum-known-found c = search needs
@@ -55,7 +55,7 @@ misplaced-group-requires c κs = tt
 -- the group that was found, and whether it is in its place
 group-of : (c : tie.After-misplaced-group Inv-loop μ-loop)
     → GroupHere (drop (c .before .before .before .before .before .before .loop .at) (c .before .before .before .before .before .before .before .before .args .sheet .now)) (c .before .before .found .given .0 .0)
-group-of c = group-here _ _ (sym (c .before .before .before .before .record-at .ensures) ∙ c .before .before .found .given .1)
+group-of c = group-here _ _ (sym (c .before .before .before .before .draw .ensures) ∙ c .before .before .found .given .1)
 
 group-judged : (groups number : ℕ) (bytes : List ℕ) → number ≡ gateNumber bytes
     → (eqb groups 0 && eqb number 1) || leb 16 groups ≡ misplacedGroup groups bytes
@@ -122,7 +122,7 @@ misplaced-rule-requires c κs = tt
 -- the rule that was found, and whether it is in its place
 rule-of : (c : tie.After-misplaced-rule Inv-loop μ-loop)
     → RuleHere (drop (c .before .before .before .before .before .before .loop .at) (c .before .before .before .before .before .before .before .before .args .sheet .now)) (c .before .before .found2 .given .0 .1 .1 .1 .0) (c .before .before .found2 .given .0 .1 .1 .1 .1 .0)
-rule-of c = rule-here _ _ _ _ _ _ (sym (c .before .before .before .before .record-at .ensures) ∙ c .before .before .found2 .given .1)
+rule-of c = rule-here _ _ _ _ _ _ (sym (c .before .before .before .before .draw .ensures) ∙ c .before .before .found2 .given .1)
 
 rule-test : (c : tie.After-misplaced-rule Inv-loop μ-loop)
     → c .misplaced-rule .result ≡ misplacedRule (c .before .before .before .before .before .before .loop .groups) (c .before .before .before .before .before .before .loop .rules)
@@ -218,7 +218,7 @@ returns-3 c =
     let sheet = c .before .before .before .before .before .before .args .sheet .now in
     let turn = c .before .before .before .before .loop in
     last-record sheet (turn .at) (turn .groups) (turn .rules) (turn .nodes) (turn .first) (turn .count) (turn .inv .5)
-    (end-here (drop (turn .at) sheet) (sym (c .before .before .record-at .ensures) ∙ c .enum-told .given .1))
+    (end-here (drop (turn .at) sheet) (sym (c .before .before .draw .ensures) ∙ c .enum-told .given .1))
 
 enum-told-2 : tie.Need-enum-told-2 Inv-loop μ-loop
 enum-told-2 c = search needs
@@ -229,7 +229,7 @@ returns-4 c =
     let turn = c .before .before .before .before .loop in
     faulty-record sheet (turn .at) (turn .groups) (turn .rules) (turn .nodes) (turn .first) (turn .count) (turn .inv .5)
     (fault-alone (turn .groups) (turn .rules) (drop (turn .at) sheet)
-    (fault-here (drop (turn .at) sheet) (sym (c .before .before .record-at .ensures) ∙ c .enum-told2 .given .1)))
+    (fault-here (drop (turn .at) sheet) (sym (c .before .before .draw .ensures) ∙ c .enum-told2 .given .1)))
 
 returns-5 : tie.Need-returns-5 Inv-loop μ-loop
 returns-5 c =
@@ -245,7 +245,7 @@ check-spec =
     Inv-loop
     μ-loop
     loop-holds
-    record-at-requires
+    draw-requires
     enum-known-found
     misplaced-group-requires
     returns
