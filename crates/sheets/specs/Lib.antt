@@ -17,3 +17,4 @@ pub mod NodeLaws
 pub mod SharedTails
 pub mod Earlier
 pub mod CheckLaws
+pub mod ShippedSheet

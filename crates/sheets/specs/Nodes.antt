@@ -22,7 +22,10 @@ member tail (one ∷ more) = same tail one || member tail more
 -- how many of these are distinct, beside those already seen
 unfoldable pub distinct : List (List ℕ) → List (List ℕ) → ℕ
 distinct seen [] = 0
-distinct seen (tail ∷ more) = cond (member tail seen) (distinct seen more) (suc (distinct (tail ∷ seen) more))
+distinct seen (tail ∷ more) =
+    let known = distinct seen more in
+    let new = suc (distinct (tail ∷ seen) more) in
+    cond (member tail seen) known new
 
 -- "the roots plus, for each group, the distinct non-empty tails of its endings"
 unfoldable pub nodeCount : List Group → ℕ

@@ -9,6 +9,7 @@ mod nodes;
 mod numbers;
 pub mod reader;
 pub mod records;
+pub mod shipped;
 
 use nodes::longest_shared;
 use reader::draw;
