@@ -17,4 +17,7 @@ pub mod NodeLaws
 pub mod SharedTails
 pub mod Earlier
 pub mod CheckLaws
+pub mod Correspondence
+pub mod Outcomes
 pub mod ShippedSheet
+pub mod SheetSamples
