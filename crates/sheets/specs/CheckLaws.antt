@@ -42,34 +42,17 @@ use Rattle.sheets.specs.Nodes.{tails, tailsOf, distinct, nodeCount}
 use Rattle.sheets.specs.Bytes.{recordOf, ruleBody, rulesBytes}
 use Rattle.sheets.specs.Answers.{answer, checked}
 use Rattle.sheets.specs.Earlier.{endingIn, tailsIn, ending-in, tails-in}
-use Rattle.sheets.specs.LookBack.{shared, shared-at-most, look-back}
+use Rattle.sheets.specs.LookBack.{shared, shared-at-most}
+use Rattle.sheets.specs.Finished.{finished, after-group, after-rule, one-more}
+use Rattle.sheets.specs.Lists.{empty}
 use Rattle.sheets.specs.ByteLaws.{long, fitting, length-body, length-after}
 use Rattle.sheets.specs.RecordLaws.{GroupHere, RuleHere, EndHere}
 use Rattle.sheets.specs.RuleLaws.{Sound, sound, length-ending, length-replacement, group-length}
 use Rattle.sheets.specs.SheetLaws.{fault-step, group-step, rule-step, end-step, enough}
-use Rattle.sheets.specs.WriteBack.{Written, WrittenAs, not-read, is-read, rest-written, rule-record}
+use Rattle.sheets.specs.ReadRecords.{rule-record}
+use Rattle.sheets.specs.WriteBack.{Written, WrittenAs, not-read, is-read, rest-written}
 use Rattle.sheets.specs.declared.Checked.{Checked}
 use Rattle.sheets.specs.declared.Checked.the-variants.{Accepted, Refused}
-
--- the answer, once the rest is read: so many nodes are counted, and these rules of the group came before
-abbrev pub finished : ℕ → List Rule → Rest → Checked
-finished nodes earlier (faulty-at place) = Refused place
-finished nodes earlier (holding rules groups) = Accepted (nodes + (distinct (tailsOf earlier) (tailsOf rules) + nodeCount groups))
-
-after-group : (nodes : ℕ) (earlier : List Rule) (one : Gate) (rest : Rest)
-    → finished nodes earlier (groupThen one rest) ≡ finished (nodes + 1) [] rest
-unfolding nodeCount tailsOf distinct
-after-group nodes earlier one (faulty-at place) = refl
-after-group nodes earlier one (holding rules groups) = ap Accepted (omega arith)
-
-after-rule : (nodes : ℕ) (earlier : List Rule) (one : Rule) (rest : Rest)
-    → finished nodes earlier (ruleThen one rest)
-    ≡ finished (nodes + (length (one .ending) - shared (one .ending) (tailsOf earlier))) (earlier ++ (one ∷ [])) rest
-unfolding tailsOf
-after-rule nodes earlier one (faulty-at place) = refl
-after-rule nodes earlier one (holding rules groups) =
-    let law = look-back earlier one (tailsOf rules) in
-    ap Accepted (omega arith)
 
 -- what is known where a record starts: the rules of the group so far stand from `first` on, and the rest decides the answer
 pub record State (sheet : List ℕ) (at groups rules nodes first count : ℕ) : Type 0 where
@@ -78,24 +61,11 @@ pub record State (sheet : List ℕ) (at groups rules nodes first count : ℕ) : 
   pub stand : drop first sheet ≡ rulesBytes earlier ++ drop at sheet
   pub decides : checked sheet ≡ finished nodes earlier (readRest (length (drop at sheet)) groups rules at (drop at sheet))
 
-one-more : (earlier : List Rule) (one : Rule) (l : List ℕ)
-    → rulesBytes earlier ++ (recordOf 2 (ruleBody one) ++ l) ≡ rulesBytes (earlier ++ (one ∷ [])) ++ l
-unfolding rulesBytes
-one-more [] one l = simp append-assoc
-one-more (other ∷ earlier) one l =
-    append-assoc (recordOf 2 (ruleBody other)) (rulesBytes earlier) (recordOf 2 (ruleBody one) ++ l)
-    ∙ (ap (λ (k : List ℕ). recordOf 2 (ruleBody other) ++ k) (one-more earlier one l)
-    ∙ sym (append-assoc (recordOf 2 (ruleBody other)) (rulesBytes (earlier ++ (one ∷ []))) l))
-
 -- ## The start
-no-rules : (list : List Rule) → length list ≡ 0 → list ≡ []
-no-rules [] none = refl
-no-rules (one ∷ list) none = absurd (omega arith)
-
 from-start : {found : Rest} (sheet : List ℕ) → WrittenAs 0 0 sheet found → answer (whole found) ≡ finished 0 [] found
 unfolding tailsOf distinct
 from-start sheet (not-read place) = refl
-from-start sheet (is-read list groups w) = rw (no-rules list (w .no-rule-first refl)) (ap Accepted (omega arith))
+from-start sheet (is-read list groups w) = rw (empty list (w .no-rule-first refl)) (ap Accepted (omega arith))
 
 pub starts : (sheet : List ℕ) → State sheet 0 0 0 0 0 0
 unfolding checked readSheet rulesBytes
@@ -108,7 +78,7 @@ starts sheet =
     }
 
 -- ## One record
-module _ (sheet : List ℕ) (at groups rules nodes first count : ℕ) (state : State sheet at groups rules nodes first count) where
+module _ {sheet : List ℕ} {at groups rules nodes first count : ℕ} (state : State sheet at groups rules nodes first count) where
   abbrev rest : List ℕ
   rest = drop at sheet
 
@@ -151,11 +121,11 @@ module _ (sheet : List ℕ) (at groups rules nodes first count : ℕ) (state : S
       enough more (length (after rest)) groups′ rules′ (at + (4 + bodyLength rest)) (after rest) (omega arith) (omega arith)
       ∙ rw (beyond next is, is) refl
 
-  pub group-size : (number : ℕ) → GroupHere rest number → bodyLength rest ≡ 2
-  group-size number here = sym (length-body rest (here .whole)) ∙ group-length (body rest) (here .sound)
+  pub group-size : {number : ℕ} → GroupHere rest number → bodyLength rest ≡ 2
+  group-size here = sym (length-body rest (here .whole)) ∙ group-length (body rest) (here .sound)
 
-  pub rule-size : (s1 s2 : ℕ) → RuleHere rest s1 s2 → bodyLength rest ≡ 4 + (s1 + s2)
-  rule-size s1 s2 here =
+  pub rule-size : {s1 s2 : ℕ} → RuleHere rest s1 s2 → bodyLength rest ≡ 4 + (s1 + s2)
+  rule-size here =
       let is = sound (body rest) (here .sound) in
       let a = length-body rest (here .whole) in
       let b = length-ending (body rest) is in
@@ -173,23 +143,23 @@ module _ (sheet : List ℕ) (at groups rules nodes first count : ℕ) (state : S
       let c = length-drop at sheet in
       omega arith
 
-  pub group-inside : (number : ℕ) → GroupHere rest number → at + 6 ≤ length sheet
-  group-inside number here = omega (arith, inside (here .whole), group-size number here)
+  pub group-inside : {number : ℕ} → GroupHere rest number → at + 6 ≤ length sheet
+  group-inside here = omega (arith, inside (here .whole), group-size here)
 
-  pub rule-inside : (s1 s2 : ℕ) → RuleHere rest s1 s2 → at + (8 + s1 + s2) ≤ length sheet
-  rule-inside s1 s2 here = omega (arith, inside (here .whole), rule-size s1 s2 here)
+  pub rule-inside : {s1 s2 : ℕ} → RuleHere rest s1 s2 → at + (8 + s1 + s2) ≤ length sheet
+  rule-inside here = omega (arith, inside (here .whole), rule-size here)
 
-  pub ending-short : (s1 s2 : ℕ) → RuleHere rest s1 s2 → s1 ≤ 12
-  ending-short s1 s2 here =
+  pub ending-short : {s1 s2 : ℕ} → RuleHere rest s1 s2 → s1 ≤ 12
+  ending-short here =
       let is = sound (body rest) (here .sound) in
       omega (arith, length-ending (body rest) is, is .short-ending, here .ending-is)
 
   -- a group's record, in its place
-  pub group-next : (number : ℕ) → GroupHere rest number → misplacedGroup groups (body rest) ≡ false
+  pub group-next : {number : ℕ} → GroupHere rest number → misplacedGroup groups (body rest) ≡ false
       → State sheet (at + 6) (groups + 1) rules (nodes + 1) (at + 6) 0
   unfolding rulesBytes
-  group-next number here placed =
-      let size = group-size number here in
+  group-next here placed =
+      let size = group-size here in
       record {
         earlier = [];
         counted = refl;
@@ -205,7 +175,7 @@ module _ (sheet : List ℕ) (at groups rules nodes first count : ℕ) (state : S
       }
 
   -- a rule's record, in its place
-  module _ (s1 s2 : ℕ) (here : RuleHere rest s1 s2) where
+  module _ {s1 s2 : ℕ} (here : RuleHere rest s1 s2) where
     abbrev one : Rule
     one = rule (body rest)
 
@@ -240,7 +210,7 @@ module _ (sheet : List ℕ) (at groups rules nodes first count : ℕ) (state : S
         → misplacedRule groups rules ≡ false
         → State sheet (at + (8 + s1 + s2)) groups (rules + 1) (nodes + (s1 - longest)) first (count + 1)
     rule-next longest longest-is placed =
-        let size = rule-size s1 s2 here in
+        let size = rule-size here in
         let next = at + (8 + s1 + s2) in
         let next-is : next ≡ at + (4 + bodyLength rest) = omega arith in
         let earlier = state .earlier ++ (one ∷ []) in

@@ -41,6 +41,7 @@ use Rattle.sheets.specs.Bytes.{
   allowedAction,
   allowed,
 }
+use Rattle.sheets.specs.Lists.{empty}
 use Rattle.sheets.specs.Tests.{neither-left, neither-right, both-left, both-right, none-of-three, none-of-six}
 
 -- ## Groups
@@ -170,10 +171,6 @@ action-written zero s2 low = refl
 action-written (suc zero) s2 low = refl
 action-written (suc (suc a)) s2 low = absurd (omega arith)
 
-empty : (l : List ℕ) → length l ≡ 0 → [] ≡ l
-empty [] is = refl
-empty (x ∷ l) is = absurd (omega arith)
-
 -- what action 1 asks
 single-only : (body : List ℕ) → faultyAction body ≡ false → actionNumber body ≡ 1
     → (eqb (condition body) 5 || eqb (condition body) 8 ≡ true) × (length (ending body) ≡ 0) × (length (replacement body) ≡ 0)
@@ -189,7 +186,7 @@ single-only body none is =
 
 replacement-written : (a : ℕ) (s2 : List ℕ) → a ≤ 1 → (a ≡ 1 → length s2 ≡ 0) → replacementOf (actionOf a s2) ≡ s2
 replacement-written zero s2 low none = refl
-replacement-written (suc zero) s2 low none = empty s2 (none refl)
+replacement-written (suc zero) s2 low none = sym (empty s2 (none refl))
 replacement-written (suc (suc a)) s2 low none = absurd (omega arith)
 
 numbers-written : (body : List ℕ) → 4 ≤ length body

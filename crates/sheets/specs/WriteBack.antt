@@ -1,22 +1,19 @@
 -- An accepted sheet is the bytes of the list of groups that it reads as, and that list is bounded. Assumes nothing.
-use Prim.Native.Nat.{ℕ, zero, suc, _+_, _-_, _≤_, _<_}
+use Prim.Native.Nat.{ℕ, zero, suc, _+_, _≤_}
 use mathlib.Core.Path.{_≡_, refl, sym, ap, _∙_}
-use mathlib.Core.Bool.{Bool, true, false, not, cond, _&&_, _||_, true≢false}
+use mathlib.Core.Bool.{true, false, _&&_}
 use mathlib.Core.List.{List, [], _∷_, _++_, append-assoc}
 use native.Mathlib.Omega.{arith}
-use lib.Dec.{eqb, leb, ltb}
 use lib.ListN.{length}
-use borrow.Author.Tests.{le-leb, leb-false, ltb-false, eqb-false}
-use Rattle.paper.specs.Groups.{Rule, Gate, always, if-opened, Group}
+use borrow.Author.Tests.{le-leb}
+use Rattle.paper.specs.Groups.{Rule, Group}
 use Rattle.sheets.specs.Records.{
   bodyLength,
   kind,
   body,
   after,
-  gateNumber,
   gate,
   rule,
-  endingLength,
   cut,
   faultyGroup,
   misplacedGroup,
@@ -30,32 +27,35 @@ use Rattle.sheets.specs.Sheets.{
   ruleThen,
   groupThen,
   readRest,
-  Sheet,
-  refused,
   accepted,
   whole,
   readSheet,
 }
 use Rattle.sheets.specs.Bytes.{
-  two,
   recordOf,
-  numberOfGate,
   gateBody,
   ruleBody,
   rulesBytes,
   groupsBytes,
   sheetOf,
-  allowed,
   allAllowed,
   groupsAllowed,
   ruleCount,
   firstAlways,
   bounded,
 }
-use Rattle.sheets.specs.Tests.{neither-left, neither-right}
-use Rattle.sheets.specs.ByteLaws.{long, fitting, length-body, length-after, record-is}
-use Rattle.sheets.specs.RuleLaws.{group-length, group-is, Sound, sound, length-replacement, rule-is, rule-allowed}
+use Rattle.sheets.specs.Lists.{empty}
+use Rattle.sheets.specs.RuleLaws.{rule-allowed}
 use Rattle.sheets.specs.ReadBack.{written}
+use Rattle.sheets.specs.ReadRecords.{
+  group-record,
+  rule-record,
+  end-record,
+  few-groups,
+  first-gate,
+  some-group,
+  few-rules,
+}
 use Rattle.sheets.specs.SheetLaws.{
   fault-step,
   group-step,
@@ -69,79 +69,6 @@ use Rattle.sheets.specs.SheetLaws.{
   look,
 }
 
--- ## A record that is read, as bytes
-pub group-record : (rest : List ℕ) → cut rest ≡ false → kind rest ≡ 1 → faultyGroup (body rest) ≡ false
-    → rest ≡ recordOf 1 (gateBody (gate (body rest))) ++ after rest
-group-record rest whole is sound-group =
-    let size = group-length (body rest) sound-group in
-    let same = length-body rest whole in
-    record-is rest 1 whole is (omega arith) (omega arith)
-    ∙ ap (λ (b : List ℕ). recordOf 1 b ++ after rest) (group-is (body rest) sound-group)
-
-pub rule-size : (rest : List ℕ) → faultyRule rest ≡ false → length rest ≤ 28
-rule-size rest none =
-    let is = sound rest none in
-    let a = is .within in
-    let b = is .short-ending in
-    let c = is .short-replacement in
-    let d = length-replacement rest in
-    omega arith
-
-pub rule-record : (rest : List ℕ) → cut rest ≡ false → kind rest ≡ 2 → faultyRule (body rest) ≡ false
-    → rest ≡ recordOf 2 (ruleBody (rule (body rest))) ++ after rest
-rule-record rest whole is none =
-    let size = rule-size (body rest) none in
-    let same = length-body rest whole in
-    record-is rest 2 whole is (omega arith) (omega arith)
-    ∙ ap (λ (b : List ℕ). recordOf 2 b ++ after rest) (rule-is (body rest) none)
-
-nothing-left : (l : List ℕ) → length l ≡ 0 → l ≡ []
-nothing-left [] none = refl
-nothing-left (x ∷ l) none = absurd (omega arith)
-
-end-record : (rest : List ℕ) → cut rest ≡ false → kind rest ≡ 3 → length rest ≡ 4 → rest ≡ recordOf 3 []
-unfolding recordOf two
-end-record rest whole-record is last =
-    let fits = fitting rest whole-record in
-    let same = length-body rest whole-record in
-    let beyond = length-after rest in
-    let none : body rest ≡ [] = nothing-left (body rest) (omega arith) in
-    let no-more : after rest ≡ [] = nothing-left (after rest) (omega arith) in
-    record-is rest 3 whole-record is (omega arith) (omega arith)
-    ∙ (ap (λ (b : List ℕ). recordOf 3 b ++ after rest) none ∙ ap (λ (l : List ℕ). recordOf 3 [] ++ l) no-more)
-
--- ## What 01's counts say of a record that is in its place
-pub few-groups : (groups : ℕ) (rest : List ℕ) → misplacedGroup groups rest ≡ false → groups < 16
-unfolding misplacedGroup
-few-groups groups rest placed =
-    leb-false 16 groups (neither-right (eqb groups 0 && eqb (gateNumber rest) 1) (leb 16 groups) placed)
-
-gate-by : (groups : ℕ) (rest : List ℕ) (closed : Bool) → eqb (gateNumber rest) 0 ≡ closed → groups ≡ 0
-    → faultyGroup rest ≡ false → misplacedGroup groups rest ≡ false → eqb (numberOfGate (cond closed always if-opened)) 0 ≡ true
-unfolding misplacedGroup faultyGroup
-gate-by groups rest true is none sound-group placed = refl
-gate-by groups rest false is none sound-group placed =
-    let low = ltb-false 1 (gateNumber rest) (neither-right (not (eqb (length rest) 2)) (ltb 1 (gateNumber rest)) sound-group) in
-    let above = eqb-false (gateNumber rest) 0 is in
-    let one : gateNumber rest ≡ 1 = omega arith in
-    let first = neither-left (eqb groups 0 && eqb (gateNumber rest) 1) (leb 16 groups) placed in
-    absurd (true≢false (simp (none, one) at first))
-
-first-gate : (groups : ℕ) (rest : List ℕ) → groups ≡ 0 → faultyGroup rest ≡ false → misplacedGroup groups rest ≡ false
-    → eqb (numberOfGate (gate rest)) 0 ≡ true
-unfolding gate
-first-gate groups rest none sound-group placed =
-    gate-by groups rest (eqb (gateNumber rest) 0) refl none sound-group placed
-
-some-group : (groups rules : ℕ) → misplacedRule groups rules ≡ false → groups ≡ 0 → ⊥
-unfolding misplacedRule
-some-group groups rules placed = eqb-false groups 0 (neither-left (eqb groups 0) (leb 128 rules) placed)
-
-pub few-rules : (groups rules : ℕ) → misplacedRule groups rules ≡ false → rules < 128
-unfolding misplacedRule
-few-rules groups rules placed = leb-false 128 rules (neither-right (eqb groups 0) (leb 128 rules) placed)
-
--- ## What is read, as bytes
 -- the rest of a sheet holds these rules and groups, within the bounds that so many groups and rules before it leave
 pub record Written (before rules : ℕ) (rest : List ℕ) (list : List Rule) (groups : List Group) : Type 0 where
   pub bytes : rest ≡ written list groups
@@ -232,10 +159,6 @@ rest-written zero before rules place rest few fewer = not-read place
 rest-written (suc more) before rules place rest few fewer =
     with-record more (rest-written more) before rules place rest few fewer (look before rules rest)
 
-no-rules : (list : List Rule) → length list ≡ 0 → [] ≡ list
-no-rules [] none = refl
-no-rules (one ∷ list) none = absurd (omega arith)
-
 list-bounded : (list : List Rule) (groups : List Group) (sheet : List ℕ) → Written 0 0 sheet list groups → bounded groups ≡ true
 unfolding bounded
 list-bounded list groups sheet w =
@@ -250,7 +173,7 @@ list-bounded list groups sheet w =
 
 list-bytes : (list : List Rule) (groups : List Group) (sheet : List ℕ) → Written 0 0 sheet list groups → sheet ≡ sheetOf groups
 unfolding sheetOf written rulesBytes
-list-bytes list groups sheet w = w .bytes ∙ ap (λ (l : List Rule). written l groups) (sym (no-rules list (w .no-rule-first refl)))
+list-bytes list groups sheet w = w .bytes ∙ ap (λ (l : List Rule). written l groups) (empty list (w .no-rule-first refl))
 
 all-written : {found : Rest} (sheet : List ℕ) (groups : List Group) → WrittenAs 0 0 sheet found → whole found ≡ accepted groups
     → (sheet ≡ sheetOf groups) × (bounded groups ≡ true)
