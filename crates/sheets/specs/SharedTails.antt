@@ -10,7 +10,7 @@ use lib.ListN.{length, getD, drop, length-drop}
 use lib.Seq.{getD-drop, drop-cons}
 use Rattle.paper.specs.Groups.{same}
 use Rattle.sheets.specs.Nodes.{tails, member}
-use Rattle.sheets.specs.LookBack.{shared, same-equal, same-self, or-true}
+use Rattle.sheets.specs.LookBack.{shared, shared-at-most, same-equal, same-self, or-true}
 
 -- what stands from a place on is one of the tails
 tail-member : (f : List ℕ) (j x : ℕ) (t : List ℕ) → drop j f ≡ x ∷ t → member (x ∷ t) (tails f) ≡ true
@@ -84,3 +84,37 @@ shared-is (x ∷ e) f k short equal stop = by (leb k (length e)) refl (shared-is
     by false is further =
         let more = leb-false k (length e) is in
         rw (whole x e f k (omega arith) equal) (omega arith)
+
+-- ## No longer tail is shared where the letters before the last k differ
+-- in the shared tail the letters are equal
+SameLetter : List ℕ → List ℕ → ℕ → Type 0
+SameLetter e f k = (k < length f) × (getD e (length e - 1 - k) 0 ≡ getD f (length f - 1 - k) 0)
+
+shared-letter : (e f : List ℕ) (k : ℕ) → k < shared e (tails f) → SameLetter e f k
+unfolding shared SameLetter
+shared-letter [] f k less = absurd (omega arith)
+shared-letter (x ∷ e) f k less = by (member (x ∷ e) (tails f)) refl (shared-letter e f k)
+  where
+    by : (b : Bool) → member (x ∷ e) (tails f) ≡ b → (k < shared e (tails f) → SameLetter e f k) → SameLetter (x ∷ e) f k
+    by true is further =
+        let all : k < suc (length e) = rw is at less in
+        let found = tail-place f (x ∷ e) is in
+        let long : length f - found .0 ≡ suc (length e) = sym (length-drop (found .0) f) ∙ ap length (found .1) in
+        (omega arith, tail-letter f (x ∷ e) (found .0) k (found .1) all)
+    by false is further =
+        let inner : k < shared e (tails f) = rw is at less in
+        let most = shared-at-most e (tails f) in
+        let place : suc (length e) - 1 - k ≡ suc (length e - 1 - k) = omega arith in
+        (further inner .0, ap (λ (i : ℕ). getD (x ∷ e) i 0) place ∙ further inner .1)
+
+pub shared-below : (e f : List ℕ) (k : ℕ) → Stop e f k → shared e (tails f) ≤ k
+unfolding SameLetter
+shared-below e f k stop = by (leb (shared e (tails f)) k) refl
+  where
+    by : (b : Bool) → leb (shared e (tails f)) k ≡ b → shared e (tails f) ≤ k
+    by true is = leb-true (shared e (tails f)) k is
+    by false is =
+        let more = leb-false (shared e (tails f)) k is in
+        let most = shared-at-most e (tails f) in
+        let letter = shared-letter e f k more in
+        absurd (stop (omega arith) (letter .0) (letter .1))

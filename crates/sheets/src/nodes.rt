@@ -1,6 +1,7 @@
 // How many nodes a rule brings to its group: its ending is held against the earlier endings of the group, found again in the
 // sheet. No table is built.
 ghost use mathlib.Core.Path.{_≡_};
+ghost use Prim.Native.Nat.{max};
 ghost use lib.ListN.{drop};
 ghost use Rattle.sheets.specs.Records.{after};
 ghost use Rattle.sheets.specs.Nodes.{tails};
@@ -24,6 +25,27 @@ fn shared_tail(one: &[u8], other: &[u8]) -> usize
         k += 1;
     }
     k
+}
+
+// The longer of `least` and of the longest tail that two endings share. A longer one is looked for only where the letter
+// before the last `least` is the same in both.
+fn longer(one: &[u8], other: &[u8], least: usize) -> usize
+    ensures { λ r. ⌜ r ≡ max least (shared (now (one .entry)) (tails (now (other .entry)))) ⌝ }
+{
+    if least >= one.len() {
+        return least;
+    }
+    if least >= other.len() {
+        return least;
+    }
+    if one[one.len() - 1 - least] != other[other.len() - 1 - least] {
+        return least;
+    }
+    let all = shared_tail(one, other);
+    if all <= least {
+        return least;
+    }
+    all
 }
 
 // S1 of the rule that starts at this place.
@@ -70,10 +92,7 @@ pub fn longest_shared(sheet: &[u8], first: usize, count: usize, at: usize) -> us
     let mut left = count;
     let mut longest = 0;
     while left > 0 {
-        let one = shared_tail(ending, ending_at(sheet, place));
-        if longest < one {
-            longest = one;
-        }
+        longest = longer(ending, ending_at(sheet, place), longest);
         place = next_place(sheet, place);
         left -= 1;
     }

@@ -3,7 +3,6 @@
 -- Assumes nothing.
 use Prim.Native.Nat.{ℕ, zero, suc, _+_, _-_, _≤_, _<_, max}
 use mathlib.Core.Path.{_≡_, refl, sym, ap, _∙_}
-use mathlib.Core.Logic.{⊎-elim}
 use mathlib.Core.List.{List, [], _∷_, _++_}
 use native.Mathlib.Omega.{arith}
 use lib.ListN.{length, drop}
@@ -21,12 +20,11 @@ first-rule (suc left) bytes some =
     ap (λ (k : ℕ). tails (endingIn bytes) ++ tailsIn k (after bytes)) (let h : left ≡ suc left - 1 = omega arith in h)
 
 -- the first of the rules that are left, and the others
-module _ (e : List ℕ) (left : ℕ) (bytes beyond other : List ℕ) (one : ℕ) (some : 0 < left) (beyond-is : beyond ≡ after bytes)
-    (other-is : other ≡ endingIn bytes) (one-is : one ≡ shared e (tails other)) where
-  one-less : shared e (tailsIn left bytes) ≡ max one (shared e (tailsIn (left - 1) beyond))
-  one-less =
-      ap (shared e) (first-rule left bytes some)
-      ∙ (shared-append e (tails (endingIn bytes)) (tailsIn (left - 1) (after bytes)) ∙ rw (one-is, other-is, beyond-is))
+one-less : (e : List ℕ) (left : ℕ) (bytes beyond other : List ℕ) → 0 < left → beyond ≡ after bytes → other ≡ endingIn bytes
+    → shared e (tailsIn left bytes) ≡ max (shared e (tails other)) (shared e (tailsIn (left - 1) beyond))
+one-less e left bytes beyond other some beyond-is other-is =
+    ap (shared e) (first-rule left bytes some)
+    ∙ (shared-append e (tails (endingIn bytes)) (tailsIn (left - 1) (after bytes)) ∙ rw (other-is, beyond-is))
 
 nothing-shared : (e : List ℕ) → shared e [] ≡ 0
 unfolding shared member
@@ -54,8 +52,8 @@ loop-holds c = omega arith
 ending-at-requires-2 : tie.Need-ending-at-requires-2 Inv-loop μ-loop
 ending-at-requires-2 c κs = tt
 
-shared-tail-requires : tie.Need-shared-tail-requires Inv-loop μ-loop
-shared-tail-requires c κs = tt
+longer-requires : tie.Need-longer-requires Inv-loop μ-loop
+longer-requires c κs = tt
 
 next-place-requires : tie.Need-next-place-requires Inv-loop μ-loop
 next-place-requires c κs = tt
@@ -68,19 +66,17 @@ loop-less c = omega arith
 
 loop-again : tie.Need-loop-again Inv-loop μ-loop
 loop-again c =
-    let args = c .before .before .before .before .before .before .before .before .args in
-    let turn = c .before .before .before .before .before .loop in
+    let sheet = c .before .before .before .before .before .before .before .args .sheet .now in
+    let turn = c .before .before .before .before .loop in
+    let ending = c .before .before .before .before .before .ending-at .result .now in
     let step =
-    one-less (c .before .before .before .before .before .before .ending-at .result .now) (turn .left) (drop (turn .place) (args .sheet .now))
-    (drop (c .next-place .result) (args .sheet .now))
-    (c .before .before .before .ending-at2 .result .now)
-    (c .before .before .shared-tail .result)
-    (c .before .before .before .before .loop-test .taken)
+    one-less ending (turn .left) (drop (turn .place) sheet) (drop (c .next-place .result) sheet) (c .before .before .ending-at2 .result .now)
+    (c .before .before .before .loop-test .taken)
     (c .next-place .ensures)
-    (c .before .before .before .ending-at2 .ensures)
-    (c .before .before .shared-tail .ensures) in
+    (c .before .before .ending-at2 .ensures) in
     let so-far = turn .inv in
-    ⊎-elim (λ w. omega arith) (λ w. omega arith) (c .before .if1 .came)
+    let one = c .before .longer .ensures in
+    omega arith
 
 returns : tie.Need-returns Inv-loop μ-loop
 returns c =
@@ -100,7 +96,7 @@ longest-shared-spec =
     ending-at-requires
     loop-holds
     ending-at-requires-2
-    shared-tail-requires
+    longer-requires
     next-place-requires
     sub-left
     loop-less
