@@ -1,13 +1,13 @@
 -- Records and their bytes: what is read from the bytes of a record, and that a record is the bytes of what is read.
 -- Assumes nothing.
-use Prim.Native.Nat.{ℕ, zero, suc, _+_, _*_, _-_, _/_, _%_, _≤_, _<_}
+use Prim.Native.Nat.{ℕ, _+_, _*_, _-_, _/_, _%_, _≤_, _<_}
 use mathlib.Core.Path.{_≡_, refl, sym, ap, _∙_}
-use mathlib.Core.Bool.{Bool, true, false, not, cond, _&&_, _||_}
+use mathlib.Core.Bool.{false}
 use mathlib.Core.List.{List, [], _∷_, _++_, append-assoc}
 use native.Mathlib.Omega.{arith}
-use lib.Dec.{eqb, leb, ltb}
-use lib.ListN.{length, getD, take, drop, length-append, length-take, length-drop, take-append-drop}
-use lib.Seq.{drop-drop, take-append-seam, drop-append-seam, take-at, drop-at}
+use lib.Dec.{ltb}
+use lib.ListN.{length, drop, length-append, length-take, length-drop, take-append-drop}
+use lib.Seq.{drop-drop, take-append-seam, drop-append-seam}
 use borrow.Author.Tests.{ltb-false, le-ltb}
 use Rattle.sheets.specs.Records.{number, bodyLength, kind, body, after, cut}
 use Rattle.sheets.specs.Bytes.{two, recordOf}

@@ -1,7 +1,7 @@
 -- Document 01, "The sheet", from the other side: the bytes of a list of groups, and which lists are within 01's bounds.
 -- Nothing here reads a sheet. Assumes nothing.
 use Prim.Native.Nat.{ℕ, _+_, _/_, _%_}
-use mathlib.Core.Bool.{Bool, true, false, not, cond, _&&_, _||_}
+use mathlib.Core.Bool.{Bool, true, cond, _&&_, _||_}
 use mathlib.Core.List.{List, [], _∷_, _++_}
 use lib.Dec.{eqb, leb}
 use lib.ListN.{length}

@@ -1,44 +1,17 @@
 -- The check of a sheet, record by record: what is known where a record starts, and how one record carries it on.
 -- Assumes nothing.
-use Prim.Native.Nat.{ℕ, zero, suc, _+_, _*_, _-_, _≤_, _<_}
+use Prim.Native.Nat.{ℕ, suc, _+_, _-_, _≤_}
 use mathlib.Core.Path.{_≡_, refl, sym, ap, _∙_}
-use mathlib.Core.Bool.{Bool, true, false}
-use mathlib.Core.List.{List, [], _∷_, _++_, append-assoc}
+use mathlib.Core.Bool.{true, false}
+use mathlib.Core.List.{List, [], _∷_, _++_}
 use native.Mathlib.Numerals.{add-one}
 use native.Mathlib.Omega.{arith}
 use lib.ListN.{length, drop, length-append, length-drop}
 use lib.Seq.{drop-drop}
-use Rattle.paper.specs.Groups.{Rule, Gate, Group}
-use Rattle.sheets.specs.Records.{
-  bodyLength,
-  kind,
-  body,
-  after,
-  gate,
-  rule,
-  ending,
-  replacement,
-  endingLength,
-  cut,
-  faultyGroup,
-  misplacedGroup,
-  faultyRule,
-  misplacedRule,
-  faultyAlone,
-  faulty,
-}
-use Rattle.sheets.specs.Sheets.{
-  Rest,
-  faulty-at,
-  holding,
-  ruleThen,
-  groupThen,
-  readRest,
-  Sheet,
-  whole,
-  readSheet,
-}
-use Rattle.sheets.specs.Nodes.{tails, tailsOf, distinct, nodeCount}
+use Rattle.paper.specs.Groups.{Rule}
+use Rattle.sheets.specs.Records.{bodyLength, body, after, gate, rule, ending, cut, misplacedGroup, misplacedRule, faulty}
+use Rattle.sheets.specs.Sheets.{Rest, readRest, whole, readSheet}
+use Rattle.sheets.specs.Nodes.{tailsOf, distinct, nodeCount}
 use Rattle.sheets.specs.Bytes.{recordOf, ruleBody, rulesBytes}
 use Rattle.sheets.specs.Answers.{answer, checked}
 use Rattle.sheets.specs.Earlier.{endingIn, tailsIn, ending-in, tails-in}
@@ -47,11 +20,10 @@ use Rattle.sheets.specs.Finished.{finished, after-group, after-rule, one
 use Rattle.sheets.specs.Lists.{empty}
 use Rattle.sheets.specs.ByteLaws.{long, fitting, length-body, length-after}
 use Rattle.sheets.specs.RecordLaws.{GroupHere, RuleHere, EndHere}
-use Rattle.sheets.specs.RuleLaws.{Sound, sound, length-ending, length-replacement, group-length}
+use Rattle.sheets.specs.RuleLaws.{sound, length-ending, length-replacement, group-length}
 use Rattle.sheets.specs.SheetLaws.{fault-step, group-step, rule-step, end-step, enough}
 use Rattle.sheets.specs.ReadRecords.{rule-record}
-use Rattle.sheets.specs.WriteBack.{Written, WrittenAs, not-read, is-read, rest-written}
-use Rattle.sheets.specs.declared.Checked.{Checked}
+use Rattle.sheets.specs.WriteBack.{WrittenAs, not-read, is-read, rest-written}
 use Rattle.sheets.specs.declared.Checked.the-variants.{Accepted, Refused}
 
 -- what is known where a record starts: the rules of the group so far stand from `first` on, and the rest decides the answer

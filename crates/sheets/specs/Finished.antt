@@ -5,9 +5,9 @@ use mathlib.Core.Path.{_≡_, refl, sym, ap, _∙_}
 use mathlib.Core.List.{List, [], _∷_, _++_, append-assoc}
 use native.Mathlib.Omega.{arith}
 use lib.ListN.{length}
-use Rattle.paper.specs.Groups.{Rule, Gate, Group}
+use Rattle.paper.specs.Groups.{Rule, Gate}
 use Rattle.sheets.specs.Sheets.{Rest, faulty-at, holding, ruleThen, groupThen}
-use Rattle.sheets.specs.Nodes.{tails, tailsOf, distinct, nodeCount}
+use Rattle.sheets.specs.Nodes.{tailsOf, distinct, nodeCount}
 use Rattle.sheets.specs.Bytes.{recordOf, ruleBody, rulesBytes}
 use Rattle.sheets.specs.LookBack.{shared, look-back}
 use Rattle.sheets.specs.declared.Checked.{Checked}

@@ -1,13 +1,13 @@
 -- The node count by looking back: a rule brings as many nodes as its ending is longer than the longest tail that it shares
 -- with an earlier ending of its group. Assumes nothing.
-use Prim.Native.Nat.{ℕ, zero, suc, _+_, _-_, _≤_, _<_, max}
-use mathlib.Core.Path.{_≡_, refl, sym, ap, ap₂, _∙_}
-use mathlib.Core.Bool.{Bool, true, false, cond, _&&_, _||_, true≢false, false≢true}
+use Prim.Native.Nat.{ℕ, suc, _+_, _-_, _≤_, _<_, max}
+use mathlib.Core.Path.{_≡_, refl, sym, _∙_}
+use mathlib.Core.Bool.{Bool, true, false, cond, _&&_, _||_, false≢true}
 use mathlib.Core.List.{List, [], _∷_, _++_, append-assoc}
 use native.Mathlib.Omega.{arith}
 use lib.Dec.{eqb}
 use lib.ListN.{length}
-use borrow.Author.Tests.{eqb-true, eq-eqb, ne-eqb}
+use borrow.Author.Tests.{eqb-true, eq-eqb}
 use Rattle.paper.specs.Groups.{Rule, same}
 use Rattle.sheets.specs.Nodes.{tails, tailsOf, member, distinct}
 use Rattle.sheets.specs.Tests.{both-left, both-right}

@@ -2,7 +2,7 @@
 use Prim.Native.Nat.{ℕ, suc, _+_, _*_, _≤_}
 use mathlib.Core.Path.{_≡_, refl}
 use mathlib.Core.Bool.{Bool, true, false, cond, _&&_}
-use mathlib.Core.List.{List, [], _∷_, _++_}
+use mathlib.Core.List.{List, [], _∷_}
 use native.Mathlib.Omega.{arith}
 use lib.Dec.{leb}
 use lib.ListN.{length, length-append}
@@ -11,7 +11,7 @@ use Rattle.paper.specs.Groups.{Rule, Group}
 use Rattle.sheets.specs.Nodes.{tails, tailsOf, member, distinct, nodeCount}
 use Rattle.sheets.specs.Bytes.{allowed, allAllowed, groupsAllowed, ruleCount, firstAlways, bounded}
 use Rattle.sheets.specs.Tests.{both-left, both-right}
-use Rattle.sheets.specs.WrittenRules.{Bounds, bounds}
+use Rattle.sheets.specs.WrittenRules.{bounds}
 
 one-more : (b : Bool) (n k l : ℕ) → k ≤ n → l ≤ n → cond b k (suc l) ≤ suc n
 one-more true n k l first second = omega arith

@@ -1,8 +1,7 @@
 -- How many nodes the table of some groups has: document 01, "The table". Assumes nothing.
 use Prim.Native.Nat.{ℕ, suc, _+_}
-use mathlib.Core.Bool.{Bool, true, false, cond, _||_}
+use mathlib.Core.Bool.{Bool, false, cond, _||_}
 use mathlib.Core.List.{List, [], _∷_, _++_}
-use lib.ListN.{length}
 use Rattle.paper.specs.Groups.{Rule, Group, same}
 
 -- the non-empty tails of an ending, the longest first: of eed they are eed, ed and d

@@ -7,7 +7,7 @@ use lib.ListN.{drop}
 use denote.Ref.{RefT, now}
 use Rattle.paper.specs.Shipped.{shipped}
 use Rattle.sheets.specs.Bytes.{sheetOf}
-use Rattle.sheets.specs.Answers.{recordIn, checked, numberOf, valueOf}
+use Rattle.sheets.specs.Answers.{recordIn, checked}
 use Rattle.sheets.specs.declared.Checked.{Checked}
 use Rattle.sheets.specs.declared.records.Record.{Record}
 use Rattle.sheets.specs.declared.reader.Reader.{Reader}

@@ -1,15 +1,15 @@
 -- Reading the bytes of a bounded list of groups gives that list. Assumes nothing.
-use Prim.Native.Nat.{ℕ, zero, suc, _+_, _-_, _≤_, _<_}
-use mathlib.Core.Path.{_≡_, refl, sym, ap, _∙_}
-use mathlib.Core.Bool.{Bool, true, false, not, cond, _&&_, _||_}
+use Prim.Native.Nat.{ℕ, zero, suc, _+_, _≤_, _<_}
+use mathlib.Core.Path.{_≡_, refl, ap}
+use mathlib.Core.Bool.{true, false, _&&_}
 use mathlib.Core.List.{List, [], _∷_, _++_, append-assoc}
 use native.Mathlib.Omega.{arith}
-use lib.Dec.{eqb, leb, eqb·suc-zero}
-use lib.ListN.{length, length-append}
+use lib.Dec.{leb, eqb·suc-zero}
+use lib.ListN.{length}
 use borrow.Author.Tests.{leb-true, lt-leb, eqb-true}
-use Rattle.paper.specs.Groups.{Rule, Gate, always, if-opened, Group}
-use Rattle.sheets.specs.Records.{gateNumber, misplacedGroup, misplacedRule}
-use Rattle.sheets.specs.Sheets.{Rest, holding, ruleThen, groupThen, readRest, accepted, whole, readSheet}
+use Rattle.paper.specs.Groups.{Rule, Gate, Group}
+use Rattle.sheets.specs.Records.{misplacedGroup, misplacedRule}
+use Rattle.sheets.specs.Sheets.{holding, ruleThen, groupThen, readRest, accepted, whole, readSheet}
 use Rattle.sheets.specs.Bytes.{
   two,
   recordOf,

@@ -1,8 +1,8 @@
 -- A record that is not faulty: its bytes, and what its being in its place says of the counts before it. Assumes nothing.
-use Prim.Native.Nat.{ℕ, _+_, _-_, _≤_, _<_}
+use Prim.Native.Nat.{ℕ, _≤_, _<_}
 use mathlib.Core.Path.{_≡_, refl, ap, _∙_}
-use mathlib.Core.Bool.{Bool, true, false, not, cond, _&&_, _||_, true≢false}
-use mathlib.Core.List.{List, [], _∷_, _++_}
+use mathlib.Core.Bool.{Bool, true, false, not, cond, _&&_, true≢false}
+use mathlib.Core.List.{List, [], _++_}
 use native.Mathlib.Omega.{arith}
 use lib.Dec.{eqb, leb, ltb}
 use lib.ListN.{length}
@@ -25,7 +25,7 @@ use Rattle.sheets.specs.Bytes.{two, recordOf, numberOfGate, gateBody, ru
 use Rattle.sheets.specs.Lists.{empty}
 use Rattle.sheets.specs.Tests.{neither-left, neither-right}
 use Rattle.sheets.specs.ByteLaws.{fitting, length-body, length-after, record-is}
-use Rattle.sheets.specs.RuleLaws.{group-length, group-is, Sound, sound, length-replacement, rule-is}
+use Rattle.sheets.specs.RuleLaws.{group-length, group-is, sound, length-replacement, rule-is}
 
 -- ## Its bytes
 pub group-record : (rest : List ℕ) → cut rest ≡ false → kind rest ≡ 1 → faultyGroup (body rest) ≡ false

@@ -1,36 +1,14 @@
 -- What a record of a sheet is by cases: faulty by itself, a group, a rule or the end. Assumes nothing.
-use Prim.Native.Nat.{ℕ, _+_, _-_, _≤_}
-use mathlib.Core.Path.{_≡_, refl, sym, _∙_}
-use mathlib.Core.Bool.{Bool, true, false, not, cond, _||_}
+use Prim.Native.Nat.{ℕ}
+use mathlib.Core.Path.{_≡_, refl}
+use mathlib.Core.Bool.{Bool, true, false}
 use mathlib.Core.List.{List}
 use native.Mathlib.Omega.{arith}
-use lib.Dec.{eqb, ltb}
+use lib.Dec.{eqb}
 use lib.ListN.{length}
-use borrow.Author.Tests.{eqb-true, eq-eqb, ltb-false, not-false}
-use Rattle.sheets.specs.Records.{
-  bodyLength,
-  kind,
-  body,
-  gateNumber,
-  condition,
-  actionNumber,
-  opensNumber,
-  ending,
-  replacement,
-  cut,
-  faultyGroup,
-  misplacedGroup,
-  faultyRule,
-  misplacedRule,
-  faultyEnd,
-  byKind,
-  faultyAlone,
-  misplaced,
-  faulty,
-}
+use borrow.Author.Tests.{eqb-true}
+use Rattle.sheets.specs.Records.{kind, body, gateNumber, condition, actionNumber, opensNumber, ending, replacement, cut, faultyGroup, faultyRule, faultyEnd, byKind, faultyAlone}
 use Rattle.sheets.specs.Answers.{groupRecord, ruleRecord, endRecord, recordIn}
-use Rattle.sheets.specs.Tests.{neither-left, neither-right}
-use Rattle.sheets.specs.declared.records.Record.{Record}
 use Rattle.sheets.specs.declared.records.Record.the-variants.{Group, Rule, End, Faulty}
 
 -- what the answer for the kind is, where the kind is known

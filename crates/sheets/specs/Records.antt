@@ -6,7 +6,7 @@ use mathlib.Core.Bool.{Bool, true, false, not, cond, _&&_, _||_}
 use mathlib.Core.List.{List, [], _∷_}
 use lib.Dec.{eqb, leb, ltb}
 use lib.ListN.{length, getD, take, drop}
-use Rattle.paper.specs.Groups.{Action, replace, single-letter, Rule, Gate, always, if-opened}
+use Rattle.paper.specs.Groups.{replace, single-letter, Rule, Gate, always, if-opened}
 use Rattle.paper.specs.Words.{small}
 
 -- "numbers are little-endian": the two-byte number that starts at this place

@@ -1,15 +1,15 @@
 -- The bodies of groups and rules, read and written: a body that is not faulty is the bytes of what it reads as, which is
 -- within 01's bounds, and the body of what is within them reads as that. Assumes nothing.
-use Prim.Native.Nat.{ℕ, zero, suc, _+_, _*_, _-_, _≤_, _<_}
-use mathlib.Core.Path.{_≡_, refl, sym, ap, _∙_}
-use mathlib.Core.Bool.{Bool, true, false, not, cond, _&&_, _||_, true≢false, false≢true}
+use Prim.Native.Nat.{ℕ, zero, suc, _+_, _*_, _-_, _≤_}
+use mathlib.Core.Path.{_≡_, refl, sym}
+use mathlib.Core.Bool.{true, false, not, cond, _||_}
 use mathlib.Core.List.{List, [], _∷_, _++_}
 use native.Mathlib.Omega.{arith}
-use lib.Dec.{eqb, leb, ltb}
-use lib.ListN.{length, getD, take, drop, length-append, length-take, length-drop, take-append-drop}
-use lib.Seq.{drop-drop, take-append-seam, drop-append-seam, take-at, drop-at}
-use borrow.Author.Tests.{ltb-false, le-ltb, leb-true, le-leb, eqb-true, eq-eqb, not-false}
-use Rattle.paper.specs.Groups.{Action, replace, single-letter, Rule, Gate, always, if-opened, Group}
+use lib.Dec.{eqb, ltb}
+use lib.ListN.{length, drop, length-take, length-drop, take-append-drop}
+use lib.Seq.{drop-drop}
+use borrow.Author.Tests.{ltb-false, le-leb, eqb-true, eq-eqb, not-false}
+use Rattle.paper.specs.Groups.{Action, replace, single-letter, Rule, Gate, always, if-opened}
 use Rattle.paper.specs.Words.{small}
 use Rattle.sheets.specs.Records.{
   number,

@@ -1,13 +1,13 @@
 -- How long the longest tail is that two endings share, found from the last letter inward. Assumes nothing.
 use Prim.Native.Nat.{ℕ, zero, suc, _+_, _-_, _≤_, _<_}
 use mathlib.Core.Path.{_≡_, refl, sym, ap, _∙_}
-use mathlib.Core.Bool.{Bool, true, false, cond, _||_, true≢false, false≢true}
-use mathlib.Core.List.{List, [], _∷_, _++_}
+use mathlib.Core.Bool.{Bool, true, false, false≢true}
+use mathlib.Core.List.{List, [], _∷_}
 use native.Mathlib.Omega.{arith}
 use lib.Dec.{leb}
 use borrow.Author.Tests.{leb-true, leb-false}
 use lib.ListN.{length, getD, drop, length-drop}
-use lib.Seq.{getD-drop, drop-cons}
+use lib.Seq.{getD-drop}
 use Rattle.paper.specs.Groups.{same}
 use Rattle.sheets.specs.Nodes.{tails, member}
 use Rattle.sheets.specs.LookBack.{shared, shared-at-most, same-equal, same-self, or-true}

@@ -1,30 +1,12 @@
 -- Reading a sheet, record by record. Assumes nothing.
-use Prim.Native.Nat.{ℕ, zero, suc, _+_, _-_, _≤_, _<_}
+use Prim.Native.Nat.{ℕ, zero, suc, _+_, _≤_}
 use mathlib.Core.Path.{_≡_, refl, sym, ap, _∙_}
-use mathlib.Core.Bool.{Bool, true, false, not, cond, _&&_, _||_}
-use mathlib.Core.List.{List, [], _∷_, _++_}
+use mathlib.Core.Bool.{Bool, true, false}
+use mathlib.Core.List.{List, [], _∷_}
 use native.Mathlib.Omega.{arith}
 use lib.ListN.{length}
-use Rattle.paper.specs.Groups.{Rule, Gate, Group}
-use Rattle.sheets.specs.Records.{
-  bodyLength,
-  kind,
-  body,
-  after,
-  gate,
-  rule,
-  cut,
-  faultyGroup,
-  misplacedGroup,
-  faultyRule,
-  misplacedRule,
-  faultyEnd,
-  byKind,
-  faultyAlone,
-  misplaced,
-  faulty,
-}
-use Rattle.sheets.specs.Sheets.{Rest, faulty-at, holding, ruleThen, groupThen, readRest}
+use Rattle.sheets.specs.Records.{bodyLength, kind, body, after, gate, rule, cut, faultyGroup, misplacedGroup, faultyRule, misplacedRule, faultyEnd, faultyAlone, misplaced, faulty}
+use Rattle.sheets.specs.Sheets.{faulty-at, holding, ruleThen, groupThen, readRest}
 use Rattle.sheets.specs.RecordLaws.{
   at-group,
   at-rule,

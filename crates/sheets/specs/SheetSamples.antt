@@ -1,10 +1,8 @@
 -- Document 01's samples of sheets, each group of them as one statement over a list. Assumes nothing.
-use Prim.Native.Nat.{ℕ, _+_, _*_}
-use Prim.Native.String.{String}
+use Prim.Native.Nat.{ℕ}
 use mathlib.Core.Path.{_≡_, refl}
-use mathlib.Core.Bool.{Bool, true, false, not, cond, _&&_, _||_}
-use mathlib.Core.List.{List, [], _∷_, _++_, map}
-use lib.ListN.{length, replicate}
+use mathlib.Core.List.{List, [], _∷_, map}
+use lib.ListN.{replicate}
 use Rattle.paper.specs.Letters as paper
 use Rattle.paper.specs.Groups.{Rule, Group, always, same}
 use Rattle.paper.specs.Shipped as rules
@@ -34,10 +32,10 @@ use Rattle.sheets.specs.Records.{
   misplaced,
   faulty,
 }
-use Rattle.sheets.specs.Sheets.{Sheet, refused, accepted, readRest, readSheet}
+use Rattle.sheets.specs.Sheets.{readRest, readSheet}
 use Rattle.sheets.specs.Bytes.{two, recordOf, gateBody, ruleBody, rulesBytes, groupsBytes, sheetOf}
 use Rattle.sheets.specs.Nodes.{tails, tailsOf, member, distinct, nodeCount}
-use Rattle.sheets.specs.Answers.{answer, checked}
+use Rattle.sheets.specs.Answers.{checked}
 use Rattle.sheets.specs.declared.Checked.{Checked}
 use Rattle.sheets.specs.declared.Checked.the-variants.{Accepted, Refused}
 

@@ -1,7 +1,7 @@
 -- Document 01, "The sheet": reading a whole sheet. "The place of the refusal is the offset where the first faulty record
 -- starts." Assumes nothing.
 use Prim.Native.Nat.{ℕ, zero, suc, _+_}
-use mathlib.Core.Bool.{Bool, true, false, cond}
+use mathlib.Core.Bool.{cond}
 use mathlib.Core.List.{List, [], _∷_}
 use lib.ListN.{length}
 use Rattle.paper.specs.Groups.{Rule, Gate, Group}

@@ -1,8 +1,6 @@
 -- The shipped rules as a sheet: 861 bytes, within the bounds, accepted with 162 nodes. Assumes nothing.
-use Prim.Native.Nat.{ℕ, _+_}
 use mathlib.Core.Path.{_≡_, refl, ap, _∙_}
 use mathlib.Core.Bool.{true}
-use mathlib.Core.List.{List, [], _∷_, _++_, map}
 use lib.ListN.{length}
 use Rattle.paper.specs.Letters.{letters}
 use Rattle.paper.specs.Groups.{same}

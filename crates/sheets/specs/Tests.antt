@@ -1,6 +1,6 @@
 -- Laws of the Boolean tests that the definitions are made of. Assumes nothing.
-use mathlib.Core.Path.{_≡_, refl, sym}
-use mathlib.Core.Bool.{Bool, true, false, not, cond, _&&_, _||_, true≢false, false≢true}
+use mathlib.Core.Path.{_≡_, refl}
+use mathlib.Core.Bool.{Bool, true, false, _&&_, _||_, true≢false, false≢true}
 
 -- two tests of which neither holds
 pub neither-left : (a b : Bool) → a || b ≡ false → a ≡ false

@@ -1,28 +1,14 @@
 -- The body of a rule within 01's bounds, read: it is not faulty, and reads as that rule. Assumes nothing.
-use Prim.Native.Nat.{ℕ, zero, suc, _+_, _-_, _≤_, _<_}
-use mathlib.Core.Path.{_≡_, refl, sym, ap, _∙_}
-use mathlib.Core.Bool.{Bool, true, false, not, cond, _&&_, _||_, true≢false, false≢true}
-use mathlib.Core.List.{List, [], _∷_, _++_}
+use Prim.Native.Nat.{_+_, _≤_}
+use mathlib.Core.Path.{_≡_, refl, sym, _∙_}
+use mathlib.Core.Bool.{Bool, true, false, not, cond, _&&_, _||_}
 use native.Mathlib.Omega.{arith}
-use lib.Dec.{eqb, leb, ltb}
-use lib.ListN.{length, getD, take, drop, length-append}
+use lib.Dec.{eqb, leb}
+use lib.ListN.{length, length-append}
 use lib.Seq.{drop-drop, take-append-seam, drop-append-seam}
-use borrow.Author.Tests.{le-ltb, leb-true, eqb-true, eq-eqb}
+use borrow.Author.Tests.{le-ltb, leb-true}
 use Rattle.paper.specs.Groups.{Action, replace, single-letter, Rule}
-use Rattle.sheets.specs.Records.{
-  condition,
-  actionNumber,
-  opensNumber,
-  endingLength,
-  ending,
-  replacement,
-  rule,
-  outside,
-  faultyNumbers,
-  faultyLetters,
-  faultyAction,
-  faultyRule,
-}
+use Rattle.sheets.specs.Records.{condition, ending, replacement, rule, outside, faultyNumbers, faultyLetters, faultyAction, faultyRule}
 use Rattle.sheets.specs.Bytes.{numberOfAction, replacementOf, ruleBody, letters, atMost12, allowedAction, allowed}
 use Rattle.sheets.specs.Tests.{both-left, both-right}
 use Rattle.sheets.specs.RuleLaws.{not-outside}

@@ -1,11 +1,10 @@
 -- `sheets::nodes::longer` meets its contract: where the letters before the last `least` differ, or one ending has no more,
 -- no longer tail is shared. Assumes nothing.
-use Prim.Native.Nat.{ℕ, _-_, _≤_, _<_, max}
+use Prim.Native.Nat.{ℕ, max}
 use mathlib.Core.Path.{_≡_}
 use mathlib.Core.List.{List}
 use native.Mathlib.Omega.{arith}
 use borrow.Author.Needs.{needs}
-use lib.ListN.{length, getD}
 use Rattle.sheets.specs.Nodes.{tails}
 use Rattle.sheets.specs.LookBack.{shared}
 use Rattle.sheets.specs.SharedTails.{Stop, shared-below}

@@ -1,11 +1,11 @@
 -- `sheets::nodes::longest_shared` meets its contract. The loop's invariant: the longest tail shared with all the rules is
 -- the longer of the longest so far and of the longest shared with those that are left, which stand from `place` on.
 -- Assumes nothing.
-use Prim.Native.Nat.{ℕ, zero, suc, _+_, _-_, _≤_, _<_, max}
-use mathlib.Core.Path.{_≡_, refl, sym, ap, _∙_}
+use Prim.Native.Nat.{ℕ, zero, suc, _-_, _≤_, _<_, max}
+use mathlib.Core.Path.{_≡_, refl, ap, _∙_}
 use mathlib.Core.List.{List, [], _∷_, _++_}
 use native.Mathlib.Omega.{arith}
-use lib.ListN.{length, drop}
+use lib.ListN.{drop}
 use Rattle.sheets.specs.Records.{after}
 use Rattle.sheets.specs.Nodes.{tails, member}
 use Rattle.sheets.specs.LookBack.{shared, shared-append}

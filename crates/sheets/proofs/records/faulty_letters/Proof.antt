@@ -1,5 +1,4 @@
 -- `sheets::records::faulty_letters` meets its contract, by what `has_other` ensures. Assumes nothing.
-use mathlib.Core.Path.{refl}
 use borrow.Author.Needs.{needs}
 use Rattle.sheets.proofs.records.faulty_letters.Statement.{statement}
 use Rattle.sheets.proofs.records.faulty_letters.Tie as tie

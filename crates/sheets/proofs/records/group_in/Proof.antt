@@ -1,7 +1,5 @@
 -- `sheets::records::group_in` meets its contract: at each return the tests that led there say which case holds.
 -- Assumes nothing.
-use mathlib.Core.Path.{refl, ap, sym, _∙_}
-use native.Mathlib.Omega.{arith}
 use borrow.Author.Needs.{needs}
 use borrow.Author.Tests.{eq-eqb, ne-eqb, lt-ltb, le-ltb}
 use Rattle.sheets.specs.Records.{number, gateNumber, faultyGroup}

@@ -1,13 +1,12 @@
 -- `sheets::records::record_in` meets its contract: at each return the tests that led there say which case holds.
 -- Assumes nothing.
 use Prim.Native.Nat.{ℕ, _+_, _-_, _≤_, _<_}
-use mathlib.Core.Path.{_≡_, refl, sym, ap, _∙_}
+use mathlib.Core.Path.{_≡_, _∙_}
 use mathlib.Core.List.{List}
 use native.Mathlib.Omega.{arith}
 use borrow.Author.Needs.{needs}
 use borrow.Author.Tests.{lt-ltb, le-ltb, eq-eqb, ne-eqb}
 use lib.ListN.{length, take, drop}
-use Rattle.sheets.specs.declared.records.Record.{Record}
 use Rattle.sheets.specs.declared.records.Record.the-variants.{End, Faulty}
 use Rattle.sheets.specs.Records.{number, bodyLength, kind, body, cut, byKind, faultyEnd}
 use Rattle.sheets.specs.Answers.{groupRecord, ruleRecord, endRecord, recordIn}

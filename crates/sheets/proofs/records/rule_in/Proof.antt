@@ -1,7 +1,7 @@
 -- `sheets::records::rule_in` meets its contract: at each return the tests that led there say which case holds.
 -- Assumes nothing.
 use Prim.Native.Nat.{ℕ, _+_, _-_, _≤_}
-use mathlib.Core.Path.{_≡_, refl, sym, ap, _∙_}
+use mathlib.Core.Path.{_≡_, sym, ap, _∙_}
 use mathlib.Core.Bool.{Bool, true, false, not, _&&_, _||_}
 use mathlib.Core.List.{List}
 use native.Mathlib.Omega.{arith}
@@ -10,7 +10,6 @@ use borrow.Author.Tests.{lt-ltb, le-ltb, ltb-false}
 use lib.Dec.{eqb, ltb}
 use lib.ListN.{length, take, drop, length-drop}
 use lib.Seq.{take-all}
-use Rattle.sheets.specs.declared.records.Record.{Record}
 use Rattle.sheets.specs.declared.records.Record.the-variants.{Rule, Faulty}
 use Rattle.sheets.specs.Records.{
   condition,
