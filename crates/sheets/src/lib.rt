@@ -35,7 +35,8 @@ fn misplaced_rule(groups: usize, rules: usize) -> bool
     (groups == 0) | (rules >= 128)
 }
 
-// The check of a whole sheet.
+// The check of a whole sheet: so many groups, rules and nodes stand before `at`. Of the group that is read, `count` rules
+// stand from `first` on.
 pub fn check(sheet: &[u8]) -> Checked
     ensures { λ r. ⌜ r ≡ checked (now (sheet .entry)) ⌝ }
 {
