@@ -1,8 +1,7 @@
 -- How many nodes the table of some groups has: document 01, "The table". Assumes nothing.
 use Prim.Native.Nat.{ℕ, suc, _+_}
-use mathlib.Core.Bool.{Bool, true, false, cond, _||_}
+use mathlib.Core.Bool.{Bool, false, cond, _||_}
 use mathlib.Core.List.{List, [], _∷_, _++_}
-use lib.ListN.{length}
 use Rattle.paper.specs.Groups.{Rule, Group, same}
 
 -- the non-empty tails of an ending, the longest first: of eed they are eed, ed and d
@@ -22,7 +21,10 @@ member tail (one ∷ more) = same tail one || member tail more
 -- how many of these are distinct, beside those already seen
 unfoldable pub distinct : List (List ℕ) → List (List ℕ) → ℕ
 distinct seen [] = 0
-distinct seen (tail ∷ more) = cond (member tail seen) (distinct seen more) (suc (distinct (tail ∷ seen) more))
+distinct seen (tail ∷ more) =
+    let known = distinct seen more in
+    let new = suc (distinct (tail ∷ seen) more) in
+    cond (member tail seen) known new
 
 -- "the roots plus, for each group, the distinct non-empty tails of its endings"
 unfoldable pub nodeCount : List Group → ℕ
