@@ -6,6 +6,7 @@
 // byte 255 and ends.
 mod input;
 mod output;
+mod sheet;
 mod text;
 mod word;
 
@@ -17,6 +18,7 @@ fn answered(kind: u8) -> bool {
         1 => word::answered(),
         2 => text::answered_run(),
         3 => text::answered_next(),
+        4 => sheet::answered(),
         _ => false,
     }
 }

@@ -3,7 +3,7 @@
 ghost use mathlib.Core.Path.{_≡_};
 ghost use mathlib.Core.Bool.{_&&_, _||_};
 ghost use lib.Dec.{eqb, leb};
-ghost use Rattle.sheets.specs.Answers.{checked};
+ghost use Rattle.sheets.specs.Answers.{numberOf, valueOf, checked};
 
 mod nodes;
 mod numbers;
@@ -80,4 +80,23 @@ pub fn check(sheet: &[u8]) -> Checked
         }
     }
     Checked::Refused(at)
+}
+
+// Document 01's number for an answer, and what is returned besides it.
+pub fn number(answer: Checked) -> u8
+    ensures { λ r. ⌜ r ≡ numberOf answer ⌝ }
+{
+    match answer {
+        Checked::Accepted(_) => 0,
+        Checked::Refused(_) => 3,
+    }
+}
+
+pub fn value(answer: Checked) -> usize
+    ensures { λ r. ⌜ r ≡ valueOf answer ⌝ }
+{
+    match answer {
+        Checked::Accepted(nodes) => nodes,
+        Checked::Refused(place) => place,
+    }
 }
