@@ -1,7 +1,7 @@
 /* Times the text run against the same work by hand: the proved one through its C entry, and a loop
-   over the plain rendering. The texts have 1, 4, 16 and 64 KiB; a round goes over 64 KiB in texts of
-   one size, so that the time of a byte is the same at all sizes exactly if the time of a text grows
-   with its length and no faster. First all programs have to give the same texts and counts.
+   over the plain rendering. The texts have 1, 4, 16 and 64 KiB. A round goes over 64 KiB in texts
+   of one size; so where the time of a text grows with its length and no faster, a byte takes the
+   same time at all sizes. First all programs have to give the same texts and counts.
 
    texts FILE ROUNDS    FILE has a word of small letters on each line */
 
@@ -38,7 +38,7 @@ static struct counts (*const programs[PROGRAMS])(uint8_t *bytes, size_t length) 
 #define SIZES 4
 static const size_t sizes[SIZES] = {1024, 4096, 16384, 65536};
 
-/* Words of the file in a scattered order, one in eight with a capital and one in eight with a comma. */
+/* Words of the file in a scattered order, some with a capital, some with a comma. */
 static void make_text(void)
 {
     size_t at = 0;

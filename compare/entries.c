@@ -2,10 +2,11 @@
    include/lunarbugle.h. The bytes that it lends lie beside memory that cannot be read: each call is
    made twice, on bytes that begin directly behind an unreadable page and on bytes that end directly
    before one. An entry that reads or writes beyond what it was lent on that side is stopped by the
-   processor; on the other side a margin has to come back as it was. Both calls have to give the same.
+   processor; on the other side a margin has to come back as it was. Both calls have to give the
+   same answer and the same bytes.
 
-   A request that is cut short, unknown or over its bounds, and a call that fails the test, is answered
-   with the byte 255, which ends the run. */
+   A request that is cut short, unknown or over its bounds, and a call that fails this test, is
+   answered with the byte 255, which ends the run. */
 
 #define _GNU_SOURCE
 #include "lunarbugle.h"
@@ -20,7 +21,7 @@
 enum { WORD = 1, TEXT = 2, ENDED = 255 };
 enum { MOST_WORD = 4096, MOST_TEXT = 70000, MARGIN = 4096, FILLED = 0x53 };
 
-static uint8_t *space, *space_end;    /* the memory that can be used, between two pages that cannot */
+static uint8_t *space, *space_end;    /* memory that can be used, between two pages that cannot */
 static uint8_t argument[MOST_TEXT];   /* what came */
 static uint8_t afterwards[MOST_TEXT]; /* the bytes after the first call */
 

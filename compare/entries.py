@@ -1,5 +1,5 @@
-"""Sets of words and texts for the entries for C, through the program `entries.c`: those that `probe`
-is asked, with its requests."""
+"""Sets of words and texts for the entries for C: what `probe` is asked, through the program of
+`entries.c`, which takes the same requests."""
 
 import subprocess
 
@@ -15,7 +15,7 @@ MOST_BATCHES = 8  # of a set
 
 
 def printed(*command):
-    """What a command prints; shown, and an error, if the command fails."""
+    """What a command prints. If it fails, that is shown, and ends the run."""
     run = subprocess.run(command, cwd=ROOT, capture_output=True, text=True)
     if run.returncode:
         raise SystemExit(f"{run.stdout}{run.stderr}{command[0]} failed")
