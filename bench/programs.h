@@ -1,11 +1,23 @@
-/* The programs that the proved stemmer of include/lunarbugle.h is timed against. */
+/* The programs that the proved ones of include/lunarbugle.h are timed against. */
 #ifndef PROGRAMS_H
 #define PROGRAMS_H
+
+#include <stddef.h>
 
 /* Stems a word of at least one small letter where it stands, and returns its stem's length. */
 int plain_stem(char *letters, int length);
 
-/* The same source at -O3, where the compiler builds its small functions into each other. */
+/* Words stemmed and words left in a text. */
+struct counts {
+    size_t stemmed;
+    size_t left;
+};
+
+/* Makes small and stems every word of 1 to 64 letters where it stands, and fills with spaces. */
+struct counts plain_text(char *text, size_t length);
+
+/* The same sources at -O3, where the compiler builds their small functions into each other. */
 int plain_stem_inlined(char *letters, int length);
+struct counts plain_text_inlined(char *text, size_t length);
 
 #endif

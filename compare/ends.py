@@ -1,10 +1,8 @@
 """How a run of `probe` ends: at the end of the input, or with the byte 255 at a request that is cut
 short, unknown or over its bounds; and that a slow pipe gives what a file gives."""
 
-import subprocess
-import time
-
-from probing import ENDED, PROBE, WORD, coded_answer, coded_request, raw, through_probe
+from probing import ENDED, NEXT, PROBE, TEXT, WORD
+from probing import coded_answer, coded_request, raw, slowly, through
 from sets import Result
 
 GOOD = (WORD, b"hopping")
@@ -20,18 +18,19 @@ BAD = {
     "a cut word": ASKED[:-1],
     "a word of 4,097 bytes": bytes([WORD]) + raw(4097) + b"a" * 4097,
     "a word of 2^32 - 1 bytes": bytes([WORD]) + raw(2**32 - 1) + b"a" * 5000,
+    "a cut text": coded_request((TEXT, b"cats, dogs"))[:-1],
+    "a text of 70,001 bytes": coded_request((TEXT, b"a" * 70001)),
+    "no place": coded_request((NEXT, b"cats", 0))[:-4],
+    "a cut place": coded_request((NEXT, b"cats", 0))[:-1],
 }
 
 
-def slowly(coded):
-    """What probe writes when each byte comes by itself."""
-    with subprocess.Popen(PROBE, stdin=subprocess.PIPE, stdout=subprocess.PIPE) as probe:
-        for byte in coded:
-            probe.stdin.write(bytes([byte]))
-            probe.stdin.flush()
-            time.sleep(0.002)
-        probe.stdin.close()
-        return probe.stdout.read()
+def at_once(coded):
+    return through(PROBE, coded)
+
+
+def byte_by_byte(coded):
+    return slowly(PROBE, [bytes([byte]) for byte in coded])
 
 
 class Ends:
@@ -43,18 +42,18 @@ class Ends:
     def compare(self, _batch, alone):
         result = Result()
         cases = {
-            "nothing": (through_probe, b"", b""),
-            "a slow pipe": (slowly, ASKED * 3, ANSWER * 3),
-            "a slow pipe, cut": (slowly, ASKED + ASKED[:-1], ANSWER + ENDED),
+            "nothing": (at_once, b"", b""),
+            "a slow pipe": (byte_by_byte, ASKED * 3, ANSWER * 3),
+            "a slow pipe, cut": (byte_by_byte, ASKED + ASKED[:-1], ANSWER + ENDED),
         }
         for name, bad in BAD.items():
-            cases[name] = (through_probe, bad, ENDED)
-            cases[name + " after a request"] = (through_probe, ASKED + bad, ANSWER + ENDED)
+            cases[name] = (at_once, bad, ENDED)
+            cases[name + " after a request"] = (at_once, ASKED + bad, ANSWER + ENDED)
         for name, (run, coded, wanted) in cases.items():
             result.compared += 1
-            wrote = wanted if alone else run(coded)
-            if wrote != wanted:
-                result.differs(f"input   {name}: {coded}", f"probe   {wrote}", f"wanted  {wanted}")
+            got = (wanted, 0) if alone else run(coded)
+            if got != (wanted, 0):
+                result.differs(f"input   {name}: {coded}", f"probe   {got}", f"wanted  {wanted}")
         return result
 
 

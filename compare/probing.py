@@ -1,4 +1,5 @@
-"""The requests of the program `probe` and their answers, as bytes and as the second program's.
+"""The requests of the program `probe` and their answers, as bytes and as the second program's; and
+the programs that take them.
 
 A request is a tuple of its byte and its arguments, such as `(1, b"cats")`. Its answer is the tuple
 that the second program gives for it, such as `(0, 3, b"cat ")`. As bytes, a number is 4 bytes,
@@ -8,12 +9,14 @@ each of its numbers.
 
 import struct
 import subprocess
+import time
 from pathlib import Path
 
 import second
 
 HERE = Path(__file__).resolve().parent
-PROBE = [HERE / "emulate", HERE.parent / "target/bin/probe"]
+EMULATE = HERE / "emulate"
+PROBE = [EMULATE, HERE.parent / "target/bin/probe"]
 
 WORD, TEXT, NEXT, CHECK, TRANSLATE, RUN = range(1, 7)
 ENDED = b"\xff"  # what probe writes at a request that is cut short, unknown or over its bounds
@@ -68,6 +71,18 @@ def decoded(request, coded):
     return (*coded[:first], *struct.unpack_from(f"<{values}I", coded, first), place)
 
 
-def through_probe(coded):
-    """All that one run of probe writes for this input."""
-    return subprocess.run(PROBE, input=coded, stdout=subprocess.PIPE, check=True).stdout
+def through(program, coded):
+    """All that one run of a program writes for this input, and its status."""
+    run = subprocess.run(program, input=coded, stdout=subprocess.PIPE)
+    return run.stdout, run.returncode
+
+
+def slowly(program, pieces):
+    """The same for an input that comes in these pieces, each by itself."""
+    with subprocess.Popen(program, stdin=subprocess.PIPE, stdout=subprocess.PIPE) as run:
+        for piece in pieces:
+            run.stdin.write(piece)
+            run.stdin.flush()
+            time.sleep(0.002)
+        run.stdin.close()
+        return run.stdout.read(), run.wait()

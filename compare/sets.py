@@ -1,8 +1,10 @@
-"""A set of requests, and its comparison: the program `probe` against the second program."""
+"""A set of requests, and its comparison: the program `probe`, or another that takes its requests,
+against the second program."""
 
+import time
 from collections import Counter
 
-from probing import NEXT, answer_of, coded_answer, coded_request, decoded, through_probe
+from probing import NEXT, PROBE, answer_of, coded_answer, coded_request, decoded, through
 
 SHOWN = 3  # differences of a set that are shown
 WHOLE = 9000  # characters of a request or an answer that are shown: a word is shown whole
@@ -10,7 +12,8 @@ WHOLE = 9000  # characters of a request or an answer that are shown: a word is s
 
 def first_difference(got, wanted):
     """Where two answers begin to differ, for answers too long to be shown whole."""
-    place = next((at for at, pair in enumerate(zip(got, wanted)) if pair[0] != pair[1]), len(got))
+    shorter = min(len(got), len(wanted))
+    place = next((at for at in range(shorter) if got[at] != wanted[at]), shorter)
     return f"from byte {place} on {got[place : place + 40]} is not {wanted[place : place + 40]}"
 
 
@@ -35,24 +38,39 @@ class Result:
         self.shown = (self.shown + other.shown)[:SHOWN]
         self.numbers += other.numbers
 
+    def report(self, name, began, verb="compared"):
+        """Prints the line of a set, and the differences that are shown."""
+        numbers = ", ".join(f"{number}: {count}" for number, count in sorted(self.numbers.items()))
+        print(
+            f"{name}: {self.compared} {verb}, {self.different} differences"
+            f"{f' (numbers returned {numbers})' if numbers else ''} ({time.time() - began:.0f} s)",
+            flush=True,
+        )
+        for difference in self.shown:
+            print("  " + difference)
+
 
 class Set:
-    """Requests that are made in batches; each batch is one run of probe.
+    """Requests that are made in batches; each batch is one run of the program.
 
     `requests(batch)` gives a batch's requests. `third(request)`, where there is one, gives the
     answer by a third way, or None where that way has none."""
 
-    def __init__(self, name, batches, requests, third=None):
+    def __init__(self, name, batches, requests, third=None, program=PROBE):
         self.name = name
         self.batches = batches
         self.requests = requests
         self.third = third
+        self.program = program
 
     def compare(self, batch, alone):
-        """Compares a batch; `alone` leaves probe out, and only the third way is left to compare."""
+        """Compares a batch; `alone` leaves the program out, and only the third way is left."""
         result = Result()
         requests = self.requests(batch)
-        wrote = b"" if alone else through_probe(b"".join(map(coded_request, requests)))
+        asked = b"".join(map(coded_request, requests))
+        wrote, status = (b"", 0) if alone else through(self.program, asked)
+        if status:
+            result.differs(f"the program ended with status {status}")
         at = 0
         for request in requests:
             answer = answer_of(request)
@@ -64,10 +82,10 @@ class Set:
             at += len(coded)
             third = self.third(request) if self.third else None
             if got != coded or third not in (None, answer):
-                lines = [f"request {request}", f"probe   {decoded(request, got)}"]
+                lines = [f"request {request}", f"program {decoded(request, got)}"]
                 lines += [f"second  {answer}"] + ([f"third   {third}"] if third else [])
-                lines += [f"probe's {first_difference(got, coded)}"] if got != coded else []
+                lines += [first_difference(got, coded)] if got != coded else []
                 result.differs(*lines)
-        if not alone and at < len(wrote):
-            result.differs(f"probe wrote {len(wrote) - at} bytes more than the answers have")
+        if at < len(wrote):
+            result.differs(f"the program wrote more than the answers: {wrote[at:]}")
         return result

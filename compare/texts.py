@@ -41,16 +41,26 @@ def only(rng, alphabet, length):
     return bytes(rng.choice(alphabet) for _ in range(length))
 
 
+CAPITALS = b"ABCDEFGHIJKLMNOPQRSTUVWXYZ"
 OTHER_BYTES = bytes(byte for byte in range(256) if not bytes([byte]).isalpha())
+# Characters of one to four bytes in UTF-8, letters of other alphabets among them.
+CHARACTERS = "aegnst ESY'" + "éßñøÅÉ" + "αβγжΩ" + "—’鋼語" + "𝔞🚀"
+
+
+def in_characters(rng, length):
+    """Whole characters, and at the end perhaps a cut one."""
+    return "".join(rng.choice(CHARACTERS) for _ in range(length)).encode()[:length]
 
 
 def any_text(rng):
     length = rng.choice((0, 1, 2, 20, 64, 65, 66, rng.randint(0, 300), rng.randint(0, 300)))
     shape = rng.random()
-    if shape < 0.7:
+    if shape < 0.6:
         return made_text(rng, length)
+    if shape < 0.7:
+        return in_characters(rng, length)
     if shape < 0.8:
-        return only(rng, b"ABCDEFGHIJKLMNOPQRSTUVWXYZ", length)
+        return only(rng, CAPITALS, length)
     if shape < 0.9:
         return only(rng, OTHER_BYTES, length)
     return only(rng, range(256), length)
@@ -58,17 +68,20 @@ def any_text(rng):
 
 def made_texts(batch):
     rng = random.Random(f"made texts {batch}")
-    return [(TEXT, any_text(rng)) for _ in range(1000)]
+    return [(TEXT, any_text(rng)) for _ in range(3000)]
+
+
+LONGEST_BATCHES = 8
+LENGTHS = (*range(65516, 65557), 69999, 70000)
 
 
 def longest_texts(batch):
-    """Around 65,536 bytes, and up to the longest that probe takes."""
+    """All lengths around 65,536, and the longest that probe takes; each in several shapes."""
     rng = random.Random(f"longest texts {batch}")
-    capitals = b"ABCDEFGHIJKLMNOPQRSTUVWXYZ"
-    lengths = (65535, 65536, 65536, 65537, 65538, 70000)
-    texts = [(made_text(rng, 4000) * 18)[:length] for length in lengths]
-    texts += [only(rng, OTHER_BYTES, 65536), only(rng, capitals, 65536), bytes(65537)]
-    return [(TEXT, text) for text in texts]
+    shapes = [made_text(rng, 4000), in_characters(rng, 4000), only(rng, range(256), 4000)]
+    shapes += [only(rng, CAPITALS, 4000), only(rng, OTHER_BYTES, 4000), bytes(4000)]
+    lengths = LENGTHS[batch::LONGEST_BATCHES]
+    return [(TEXT, (shape * 18)[:length]) for length in lengths for shape in shapes]
 
 
 def next_words(batch):
@@ -83,7 +96,7 @@ def next_words(batch):
 
 SETS = [
     Set("samples", 1, sample_texts),
-    Set("made", 24, made_texts),
-    Set("longest", 8, longest_texts),
+    Set("made", 8, made_texts),
+    Set("longest", LONGEST_BATCHES, longest_texts),
     Set("next word", 10, next_words),
 ]

@@ -14,10 +14,8 @@ def next_word(text, start):
     return (found.start(), len(found[0])) if found else (len(text), 0)
 
 
-def text_run(text):
-    """Request 2: number, words stemmed, words left, the text."""
-    if len(text) > 65536:
-        return 5, 0, 0, text
+def stemmed_text(text):
+    """Words stemmed, words left, and the text, which may have any length."""
     stemmed = left = 0
 
     def rewritten(found):
@@ -30,4 +28,9 @@ def text_run(text):
         return place
 
     text = WORD.sub(rewritten, text)
-    return 0, stemmed, left, text
+    return stemmed, left, text
+
+
+def text_run(text):
+    """Request 2: number, words stemmed, words left, the text."""
+    return (5, 0, 0, text) if len(text) > 65536 else (0, *stemmed_text(text))

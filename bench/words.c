@@ -3,30 +3,21 @@
    to give the same stems for every word. In each round every program stems every word once, in
    turn, so that whatever else the machine does falls on all of them; the median round counts.
 
-   host FILE ROUNDS    FILE has a word of small letters on each line */
+   words FILE ROUNDS    FILE has a word of small letters on each line */
 
 #include "lunarbugle.h"
+#include "measuring.h"
 #include "programs.h"
 
-#include <stdint.h>
 #include <stdio.h>
-#include <stdlib.h>
 #include <string.h>
-#include <time.h>
 
 #ifdef WITH_LIBSTEMMER
 #include <libstemmer.h>
 static struct sb_stemmer *porter;
 #endif
 
-#define MOST_BYTES (1 << 22)
-#define MOST_WORDS (1 << 18)
-#define MOST_ROUNDS 999
-
-static uint8_t words[MOST_BYTES]; /* the words without their line feeds, one after the other */
-static uint8_t space[MOST_BYTES]; /* a copy, for a program to stem in */
-static size_t starts[MOST_WORDS + 1];
-static size_t word_count;
+static uint8_t space[MOST_BYTES]; /* a copy of the words, for a program to stem in */
 static volatile size_t checksum; /* uses what a round computes, so that no call is left out */
 
 /* A program: stems a word where it stands, or elsewhere; where the stem is, and its length. */
@@ -72,23 +63,6 @@ static const struct program {
 
 #define PROGRAMS (sizeof programs / sizeof *programs)
 
-static void read_words(const char *path)
-{
-    FILE *file = fopen(path, "rb");
-    if (!file) {
-        perror(path);
-        exit(2);
-    }
-    size_t at = 0;
-    for (int byte; (byte = getc(file)) != EOF && at < MOST_BYTES && word_count < MOST_WORDS;) {
-        if (byte == '\n')
-            starts[++word_count] = at;
-        else
-            words[at++] = (uint8_t)byte;
-    }
-    fclose(file);
-}
-
 static struct stem stem_of(size_t program, size_t word)
 {
     return programs[program].stem(space + starts[word], starts[word + 1] - starts[word]);
@@ -121,34 +95,20 @@ static int agree(void)
 /* Nanoseconds a word in one round of a program. */
 static double round_of(size_t program)
 {
-    struct timespec began, ended;
     size_t letters = 0;
     memcpy(space, words, sizeof words);
-    clock_gettime(CLOCK_MONOTONIC, &began);
+    double began = now();
     for (size_t word = 0; word < word_count; word++)
         letters += stem_of(program, word).length;
-    clock_gettime(CLOCK_MONOTONIC, &ended);
+    double ended = now();
     checksum += letters;
-    return ((ended.tv_sec - began.tv_sec) * 1e9 + (ended.tv_nsec - began.tv_nsec)) / word_count;
-}
-
-static int by_size(const void *a, const void *b)
-{
-    double x = *(const double *)a, y = *(const double *)b;
-    return (x > y) - (x < y);
+    return (ended - began) / word_count;
 }
 
 int main(int count, char **arguments)
 {
-    if (count != 3) {
-        fprintf(stderr, "usage: host FILE ROUNDS\n");
-        return 2;
-    }
     static double times[PROGRAMS][MOST_ROUNDS];
-    size_t rounds = strtoul(arguments[2], NULL, 10);
-    if (rounds < 1 || rounds > MOST_ROUNDS)
-        rounds = MOST_ROUNDS;
-    read_words(arguments[1]);
+    size_t rounds = begin(count, arguments);
 #ifdef WITH_LIBSTEMMER
     porter = sb_stemmer_new("porter", NULL);
 #endif
@@ -158,7 +118,7 @@ int main(int count, char **arguments)
         for (size_t program = 0; program < PROGRAMS; program++)
             times[program][round] = round_of(program);
     for (size_t program = 0; program < PROGRAMS; program++) {
-        qsort(times[program], rounds, sizeof(double), by_size);
+        sort_times(times[program], rounds);
         double median = times[program][rounds / 2];
         printf("%-11s %7.1f ns a word (best round %.1f), %.2f times plain C -O2\n",
                programs[program].name, median, times[program][0], median / times[0][rounds / 2]);

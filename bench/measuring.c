@@ -1,0 +1,57 @@
+/* What the two hosts share: the words of a file, and rounds with their times. */
+
+#include "measuring.h"
+
+#include <stdio.h>
+#include <stdlib.h>
+#include <time.h>
+
+uint8_t words[MOST_BYTES];
+size_t starts[MOST_WORDS + 1];
+size_t word_count;
+
+static void read_words(const char *path)
+{
+    FILE *file = fopen(path, "rb");
+    if (!file) {
+        perror(path);
+        exit(2);
+    }
+    size_t at = 0;
+    for (int byte; (byte = getc(file)) != EOF && at < MOST_BYTES && word_count < MOST_WORDS;) {
+        if (byte == '\n')
+            starts[++word_count] = at;
+        else
+            words[at++] = (uint8_t)byte;
+    }
+    fclose(file);
+}
+
+size_t begin(int count, char **arguments)
+{
+    if (count != 3) {
+        fprintf(stderr, "usage: %s FILE ROUNDS\n", arguments[0]);
+        exit(2);
+    }
+    read_words(arguments[1]);
+    size_t rounds = strtoul(arguments[2], NULL, 10);
+    return rounds < 1 || rounds > MOST_ROUNDS ? MOST_ROUNDS : rounds;
+}
+
+double now(void)
+{
+    struct timespec time;
+    clock_gettime(CLOCK_MONOTONIC, &time);
+    return time.tv_sec * 1e9 + time.tv_nsec;
+}
+
+static int by_size(const void *a, const void *b)
+{
+    double x = *(const double *)a, y = *(const double *)b;
+    return (x > y) - (x < y);
+}
+
+void sort_times(double *times, size_t rounds)
+{
+    qsort(times, rounds, sizeof *times, by_size);
+}

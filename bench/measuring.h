@@ -1,0 +1,26 @@
+/* What the two hosts share: the words of a file, and rounds with their times. */
+#ifndef MEASURING_H
+#define MEASURING_H
+
+#include <stddef.h>
+#include <stdint.h>
+
+#define MOST_BYTES (1 << 22)
+#define MOST_WORDS (1 << 18)
+#define MOST_ROUNDS 999
+
+extern uint8_t words[MOST_BYTES]; /* the words without their line feeds, one after the other */
+extern size_t starts[MOST_WORDS + 1];
+extern size_t word_count;
+
+/* Takes the arguments FILE ROUNDS: reads the words of the file, one on each line, and returns the
+   number of rounds. */
+size_t begin(int count, char **arguments);
+
+/* Nanoseconds on a clock that only goes forward. */
+double now(void);
+
+/* Sorts the times of all rounds, so that the best stands first and the median in the middle. */
+void sort_times(double *times, size_t rounds);
+
+#endif

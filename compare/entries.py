@@ -1,0 +1,45 @@
+"""Sets of words and texts for the entries for C: what `probe` is asked, through the program of
+`entries.c`, which takes the same requests."""
+
+import subprocess
+
+from probing import EMULATE, HERE, NEXT
+from sets import Set
+from texts import SETS as TEXTS
+from words import SETS as WORDS
+
+ROOT = HERE.parent
+BUILT = ROOT / "target/compare/entries"
+ENTRIES = [EMULATE, "--static", BUILT]
+MOST_BATCHES = 8  # of a set
+
+
+def printed(*command):
+    """What a command prints. If it fails, that is shown, and ends the run."""
+    run = subprocess.run(command, cwd=ROOT, capture_output=True, text=True)
+    if run.returncode:
+        raise SystemExit(f"{run.stdout}{run.stderr}{command[0]} failed")
+    return run.stdout.strip()
+
+
+def build():
+    """Links the program with the proved library."""
+    BUILT.parent.mkdir(parents=True, exist_ok=True)
+    printed("rt", "staticlib", "lunarbugle")
+    compiler = printed(EMULATE, "--compiler")
+    flags = "-std=c11 -Wall -Wextra -Werror -O2 -static -Iinclude".split()
+    printed(compiler, *flags, HERE / "entries.c", "target/staticlib/liblunarbugle.a", "-o", BUILT)
+
+
+def through_entries(kind, one):
+    """The set's first batches, but for the next word, which C has no entry for."""
+
+    def requests(batch):
+        return [request for request in one.requests(batch) if request[0] != NEXT]
+
+    batches = min(one.batches, MOST_BATCHES)
+    return Set(f"{kind}, {one.name}", batches, requests, one.third, ENTRIES)
+
+
+SETS = [through_entries("words", one) for one in WORDS if one.name != "one run"]
+SETS += [through_entries("texts", one) for one in TEXTS if one.name != "next word"]
