@@ -1,0 +1,25 @@
+-- Document 01, "The text run": the next word from a place. Assumes nothing.
+use Prim.Native.Nat.{ℕ, suc, _+_, min}
+use mathlib.Core.List.{List, [], _∷_}
+use lib.ListN.{length, drop}
+use Rattle.texts.specs.Pieces.{Piece, word, other, pieces}
+
+-- the first word of these pieces; "the part is empty if no word follows"
+unfoldable pub firstWord : List Piece → List ℕ
+firstWord [] = []
+firstWord (word letters ∷ pieces) = letters
+firstWord (other byte ∷ pieces) = firstWord pieces
+
+-- how many bytes stand before the first word; all of them if there is none
+unfoldable pub gap : List Piece → ℕ
+gap [] = 0
+gap (word letters ∷ pieces) = 0
+gap (other byte ∷ pieces) = suc (gap pieces)
+
+-- "The next word is handed back as a part of the caller's own text, searched from a given place as if the text began there"
+unfoldable pub nextWord : List ℕ → ℕ → List ℕ
+nextWord text from = firstWord (pieces (drop from text))
+
+-- where in the text that word stands; the text's length if no word follows
+unfoldable pub nextWordAt : List ℕ → ℕ → ℕ
+nextWordAt text from = min from (length text) + gap (pieces (drop from text))
