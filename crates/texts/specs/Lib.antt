@@ -6,3 +6,4 @@ pub mod PiecesLaws
 pub mod LongestRuns
 pub mod NextLaws
 pub mod TextsLaws
+pub mod StemLaws

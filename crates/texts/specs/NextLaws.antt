@@ -65,11 +65,12 @@ first-leading (byte ∷ bytes) = go (first-leading bytes) (isLetter byte) refl
         → (test : Bool) → isLetter byte ≡ test
         → firstWord (pieces (byte ∷ bytes)) ≡ leading (drop (gap (pieces (byte ∷ bytes))) (byte ∷ bytes))
     go shorter true letter =
-        rw
-        (gap-letter byte bytes letter,
-         pieces-letter byte bytes letter,
-         begins-with-word byte bytes,
-         leading-letter byte bytes letter)
+        rw (
+          gap-letter byte bytes letter,
+          pieces-letter byte bytes letter,
+          begins-with-word byte bytes,
+          leading-letter byte bytes letter,
+        )
     go shorter false separates = rw (gap-other byte bytes separates, pieces-other byte bytes separates) shorter
 
 -- a text that is not empty has a byte outside words or a letter
@@ -92,7 +93,7 @@ no-word (byte ∷ bytes) none = go (no-word bytes) (isLetter byte) refl
         → (test : Bool) → isLetter byte ≡ test → gap (pieces (byte ∷ bytes)) ≡ suc (length bytes)
     go shorter true letter =
         let first : length (firstWord (pieces (byte ∷ bytes))) ≡ suc (length (leading bytes)) =
-            rw (pieces-letter byte bytes letter, begins-with-word byte bytes)
+        rw (pieces-letter byte bytes letter, begins-with-word byte bytes)
         in
         absurd (omega arith)
     go shorter false separates =

@@ -1,12 +1,12 @@
 -- What holds of the pieces of a text: they are the whole text in its order, their words are the longest runs of letters,
 -- and a text that is cut at a byte outside words falls into the pieces of the two parts. Assumes nothing.
-use Prim.Native.Nat.{ℕ, suc, _<_}
+use Prim.Native.Nat.{ℕ, suc, _≤_, _<_}
 use mathlib.Core.Path.{_≡_, refl, sym, ap, _∙_}
 use mathlib.Core.Bool.{Bool, true, false, cond, not, _&&_, _||_}
 use mathlib.Core.List.{List, [], _∷_, _++_, append-assoc}
 use native.Mathlib.Omega.{arith}
 use borrow.Author.Tests.{not-true}
-use lib.ListN.{length, take, drop}
+use lib.ListN.{length, take, drop, length-append}
 use lib.Seq.{take-append-seam}
 use Rattle.texts.specs.Pieces.{isLetter, Piece, word, other, withLetter, pieces}
 
@@ -91,6 +91,9 @@ pub leading-stands : (text : List ℕ) → leading text ≡ take (length (leadin
 leading-stands text =
     sym (take-append-seam (leading text) _) ∙ ap (take (length (leading text))) (sym (leading-first text))
 
+pub leading-within : (text : List ℕ) → length (leading text) ≤ length text
+leading-within text = omega (arith, simp length-append at (ap length (leading-first text)))
+
 -- A text may be cut at any place that is not inside a word: its pieces are those of the two parts.
 
 -- the text is empty, or its first byte separates; the same of its last byte
@@ -118,6 +121,7 @@ some-piece byte bytes = go (isLetter byte) (pieces bytes)
     some [] = omega arith
     some (word letters ∷ rest) = omega arith
     some (other one ∷ rest) = omega arith
+
     go : (test : Bool) (rest : List Piece) → 0 < length (cond test (withLetter byte rest) (other byte ∷ rest))
     go true rest = some rest
     go false rest = omega arith

@@ -37,7 +37,7 @@ then-assoc one two three =
     record {
       text = append-assoc (one .text) (two .text) (three .text) i;
       stemmed = add-assoc (one .stemmed) (two .stemmed) (three .stemmed) i;
-      left = add-assoc (one .left) (two .left) (three .left) i
+      left = add-assoc (one .left) (two .left) (three .left) i;
     }
 
 pub nothing-then : (ran : Ran) → nothing then ran ≡ ran
@@ -153,7 +153,7 @@ module _ (rule : List ℕ → Reading) where
     others-stay text at inside separates =
         let parts : text ≡ take at text ++ getD text at 0 ∷ drop (suc at) text = split-at text at 0 inside in
         let front : length (runText rule (take at text) .text) ≡ at =
-            length-stays (take at text) ∙ length-take at text ∙ omega arith
+        length-stays (take at text) ∙ length-take at text ∙ omega arith
         in
         ap (λ (l : List ℕ). getD (runText rule l .text) at 0) parts
         ∙ ap (λ (ran : Ran). getD (ran .text) at 0) (run-other (take at text) (getD text at 0) (drop (suc at) text) separates)
