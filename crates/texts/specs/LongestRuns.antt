@@ -2,22 +2,22 @@
 -- `pieces` is the one reading of "A word is a longest run of A to Z and a to z; all other bytes separate". Assumes nothing.
 use Prim.Native.Nat.{ℕ, _<_}
 use mathlib.Core.Path.{_≡_, refl, sym, ap, _∙_}
-use mathlib.Core.Bool.{Bool, true, false, cond, not, _&&_, _||_, true≢false}
+use mathlib.Core.Bool.{Bool, true, false, not, _&&_, _||_, true≢false}
 use mathlib.Core.List.{List, [], _∷_, _++_}
 use native.Mathlib.Omega.{arith}
 use lib.ListN.{length}
 use Rattle.texts.specs.Pieces.{isLetter, Piece, word, other, withLetter, pieces}
-use Rattle.texts.specs.PiecesLaws.{joined, joined-pieces, pieces-letter, pieces-other, startsOutside, endsOutside, pieces-cut}
+use Rattle.texts.specs.PiecesLaws.{joined, pieces-letter, pieces-other, startsOutside, endsOutside, pieces-cut}
 
 unfoldable pub allLetters : List ℕ → Bool
 allLetters [] = true
 allLetters (byte ∷ bytes) = isLetter byte && allLetters bytes
 
-both-first : (a b : Bool) → (a && b) ≡ true → a ≡ true
+pub both-first : (a b : Bool) → (a && b) ≡ true → a ≡ true
 both-first true b both = refl
 both-first false b both = both
 
-both-second : (a b : Bool) → (a && b) ≡ true → b ≡ true
+pub both-second : (a b : Bool) → (a && b) ≡ true → b ≡ true
 both-second true b both = both
 both-second false b both = absurd (true≢false (sym both))
 
@@ -60,7 +60,8 @@ pieces-longest (byte ∷ bytes) = go (pieces-longest bytes) (isLetter byte) refl
 
 -- Whatever list of pieces is the text and has longest runs is the text's pieces.
 
-alone : (letter : ℕ) (letters : List ℕ) → allLetters (letter ∷ letters) ≡ true → pieces (letter ∷ letters) ≡ word (letter ∷ letters) ∷ []
+alone : (letter : ℕ) (letters : List ℕ) → allLetters (letter ∷ letters) ≡ true
+    → pieces (letter ∷ letters) ≡ word (letter ∷ letters) ∷ []
 unfolding allLetters pieces withLetter
 alone letter [] all = rw (pieces-letter letter [] (both-first (isLetter letter) true all))
 alone letter (next ∷ letters) all =
@@ -72,7 +73,8 @@ pub pieces-word : (letters back : List ℕ) → IsWord letters → startsOutside
     → pieces (letters ++ back) ≡ word letters ∷ pieces back
 pieces-word [] back is outside = absurd (omega (arith, is .some))
 pieces-word (letter ∷ letters) back is outside =
-    pieces-cut (letter ∷ letters) back (either (endsOutside (letter ∷ letters)) (startsOutside back) outside) ∙ ap (λ (l : List Piece). l ++ pieces back) (alone letter letters (is .all))
+    let cut = either (endsOutside (letter ∷ letters)) (startsOutside back) outside in
+    pieces-cut (letter ∷ letters) back cut ∙ ap (λ (l : List Piece). l ++ pieces back) (alone letter letters (is .all))
 
 outside-joined : (rest : List Piece) → startsWithWord rest ≡ false → LongestRuns rest → startsOutside (joined rest) ≡ true
 unfolding joined

@@ -1,6 +1,8 @@
 -- Document 01, "The text run": the next word from a place. Assumes nothing.
 use Prim.Native.Nat.{ℕ, suc, _+_, min}
 use mathlib.Core.List.{List, [], _∷_}
+use mathlib.Core.Path.{_≡_}
+use denote.Ref.{RefT, ptr, now}
 use lib.ListN.{length, drop}
 use Rattle.texts.specs.Pieces.{Piece, word, other, pieces}
 
@@ -20,6 +22,11 @@ gap (other byte ∷ pieces) = suc (gap pieces)
 unfoldable pub nextWord : List ℕ → ℕ → List ℕ
 nextWord text from = firstWord (pieces (drop from text))
 
--- where in the text that word stands; the text's length if no word follows
+-- where in the text it stands; the text's length if no word follows
 unfoldable pub nextWordAt : List ℕ → ℕ → ℕ
 nextWordAt text from = min from (length text) + gap (pieces (drop from text))
+
+-- the part that is handed back: its bytes are the next word, and they are the text's own, at that word's offset
+pub record NextWord (text : RefT (List ℕ)) (from : ℕ) (part : RefT (List ℕ)) : Type 0 where
+  pub letters : now part ≡ nextWord (now text) from
+  pub place : ptr part ≡ (ptr text .0, nextWordAt (now text) from + ptr text .1)

@@ -1,25 +1,17 @@
 -- What holds of the next word: it stands at its offset, it is made of the letters found there, and none follows exactly
 -- where the offset is the text's length. Assumes nothing.
-use Prim.Native.Nat.{ℕ, suc, _+_, _-_, _≤_, _<_, min}
+use Prim.Native.Nat.{ℕ, suc, _+_, _≤_, _<_, min}
 use mathlib.Core.Path.{_≡_, refl, sym, ap, _∙_}
-use mathlib.Core.Bool.{Bool, true, false, cond}
+use mathlib.Core.Bool.{Bool, true, false}
 use mathlib.Core.List.{List, [], _∷_, _++_, map}
 use native.Mathlib.Omega.{arith}
 use lib.ListN.{length, take, drop, length-drop, drop-of-length-le}
 use lib.Dec.{leb}
 use lib.Seq.{drop-drop, drop-length}
 use borrow.Author.Tests.{leb-true, leb-false}
-use Rattle.texts.specs.Pieces.{isLetter, Piece, word, other, withLetter, pieces}
+use Rattle.texts.specs.Pieces.{isLetter, Piece, other, pieces}
 use Rattle.texts.specs.Next.{firstWord, gap, nextWord, nextWordAt}
-use Rattle.texts.specs.PiecesLaws.{
-  leading,
-  pieces-letter,
-  pieces-other,
-  leading-letter,
-  leading-other,
-  begins-with-word,
-  leading-stands,
-}
+use Rattle.texts.specs.PiecesLaws.{leading, pieces-letter, pieces-other, leading-letter, begins-with-word, leading-stands}
 
 -- Over the pieces of a text.
 

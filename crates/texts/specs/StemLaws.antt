@@ -1,45 +1,45 @@
--- Our word rule never lengthens a word, so all that is shown of a text run by such a rule holds of ours. Assumes nothing.
+-- Our word rule: it never lengthens a word, so all that is shown of a text run by such a rule holds of ours; and a call of
+-- the word stemmer on a word made small does what the text run wants of it. Assumes nothing.
 use Prim.Native.Nat.{ℕ, _≤_}
-use mathlib.Core.Path.{_≡_, refl, sym, ap, _∙_}
-use mathlib.Core.Bool.{Bool, true, false, cond}
-use mathlib.Core.List.{List, [], _∷_}
+use mathlib.Core.Path.{_≡_, ap, _∙_}
+use mathlib.Core.List.{List, map}
 use native.Mathlib.Omega.{arith}
-use lib.Dec.{leb}
-use lib.ListN.{length}
-use borrow.Author.Tests.{leb-true}
-use Rattle.paper.specs.Groups.{Group, Reading, done, outgrown, Result, readGroup, runs, read}
-use Rattle.paper.specs.Shipped.{shipped}
-use Rattle.paper.specs.Words.{readWord, stem}
+use lib.ListN.{length, length-map}
+use borrow.Author.Tests.{le-ltb}
+use Rattle.paper.specs.Groups.{done}
+use Rattle.paper.specs.Words.{stem, placed, outcome as outcomeOfWord}
+use Rattle.paper.specs.LengthLaws.{stem-done}
+use Rattle.paper.specs.Demand2.{Stemmed-to, demand-2}
+use Rattle.texts.specs.Texts.{lowered, stemmedTo, answered, ofWord}
+use Rattle.texts.specs.LongestRuns.{IsWord}
 use Rattle.texts.specs.TextsLaws.{NeverLengthens}
-
--- what groups leave of a word that fits its place fits it too
-read-within : (place : ℕ) (groups : List Group) (opened : Bool) (word left : List ℕ)
-    → length word ≤ place → read place groups opened word ≡ done left → length left ≤ place
-unfolding read
-read-within place [] opened word left fits leaves =
-    let same : word ≡ left = cc in
-    omega (arith, ap length same)
-read-within place (group ∷ groups) opened word left fits leaves =
-    go
-    (λ o w. read-within place groups o w left)
-    (runs (group .gate) opened)
-    (leb (length (readGroup word (group .rules) .word)) place)
-    refl
-    leaves
-  where
-    go : ((o : Bool) (w : List ℕ) → length w ≤ place → read place groups o w ≡ done left → length left ≤ place)
-        → (run inside : Bool) → leb (length (readGroup word (group .rules) .word)) place ≡ inside
-        → cond run
-        (cond inside (read place groups (readGroup word (group .rules) .opened) (readGroup word (group .rules) .word)) outgrown)
-        (read place groups false word)
-        ≡ done left
-        → length left ≤ place
-    go rest true true within leads = rest (readGroup word (group .rules) .opened) (readGroup word (group .rules) .word) (leb-true _ _ within) leads
-    go rest true false within leads =
-        let never : _≡_ {A = ℕ} 0 1 = cc in
-        omega arith
-    go rest false inside within leads = rest false word fits leads
+use Rattle.texts.specs.Lowered.{all-lowered}
 
 pub stem-never-lengthens : NeverLengthens stem
-unfolding stem readWord
-stem-never-lengthens word left leaves = read-within (length word) shipped false word left (omega arith) leaves
+stem-never-lengthens letters left leaves =
+    let found = stem-done letters in
+    let same : found .0 ≡ left = cc in
+    omega (arith, found .2, ap length same)
+
+-- a word's place is as long whether its letters are capitals or small
+placed-small : (letters left : List ℕ) → placed (map lowered letters) left ≡ placed letters left
+unfolding placed
+placed-small letters left = rw (length-map letters lowered)
+
+answered-small : (letters left after : List ℕ) → length letters ≤ 64 → Stemmed-to (map lowered letters) left
+    → after ≡ outcomeOfWord (map lowered letters) .place
+    → ofWord stem letters ≡ stemmedTo after
+unfolding ofWord answered
+answered-small letters left after short to leaves =
+    rw (leaves, to .gives, to .stems, le-ltb 64 (length letters) short, placed-small letters left)
+
+-- what the word stemmer leaves in the place of a word of 1 to 64 letters, made small, is what the text run wants there
+pub stemmed-word : (letters after : List ℕ) → IsWord letters → length letters ≤ 64
+    → after ≡ outcomeOfWord (map lowered letters) .place
+    → ofWord stem letters ≡ stemmedTo after
+stemmed-word letters after is short leaves =
+    let long = length-map letters lowered in
+    let least : 1 ≤ length (map lowered letters) = omega (arith, is .some, long) in
+    let most : length (map lowered letters) ≤ 64 = omega (arith, long) in
+    let found = demand-2 (map lowered letters) least most (all-lowered letters (is .all)) in
+    answered-small letters (found .0) after short (found .1) leaves

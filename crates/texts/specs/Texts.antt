@@ -1,6 +1,6 @@
 -- Document 01, "The text run": what becomes of a text, by any word rule, and by ours. Assumes nothing.
 use Prim.Native.Nat.{ℕ, _+_}
-use mathlib.Core.Bool.{Bool, cond}
+use mathlib.Core.Bool.{cond}
 use mathlib.Core.List.{List, [], _∷_, _++_, map}
 use lib.Dec.{ltb}
 use lib.ListN.{length}
@@ -18,13 +18,17 @@ pub record Ran : Type 0 where
   pub stemmed : ℕ
   pub left : ℕ
 
+-- of a word in whose place these bytes stand, the stem first
+abbrev pub stemmedTo : List ℕ → Ran
+stemmedTo place = record { text = place; stemmed = 1; left = 0 }
+
 -- of a word that "stays with its capitals"
 abbrev pub stays : List ℕ → Ran
 stays letters = record { text = letters; stemmed = 0; left = 1 }
 
 -- of a word by what a word rule answers: the stem in the word's place, or, if it is "answered 4", the word
 unfoldable pub answered : List ℕ → Reading → Ran
-answered letters (done stem) = record { text = placed letters stem; stemmed = 1; left = 0 }
+answered letters (done stem) = stemmedTo (placed letters stem)
 answered letters outgrown = stays letters
 
 -- "Words of 1 to 64 letters are made small and stemmed. A word over 64 letters, or one answered 4, stays with its capitals."

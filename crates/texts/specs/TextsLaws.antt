@@ -8,9 +8,9 @@ use mathlib.Core.List.{List, [], _∷_, _++_, map, append-assoc, append-nil}
 use native.Mathlib.Nat.{add-assoc, zero-add, add-zero}
 use native.Mathlib.Omega.{arith}
 use lib.Dec.{ltb}
-use lib.ListN.{length, take, drop, getD, length-append, length-replicate, length-map, length-take, List·getD-eq-default}
+use lib.ListN.{length, take, drop, getD, length-append, length-replicate, length-map, length-take}
 use lib.Seq.{split-at, getD-at}
-use borrow.Author.Tests.{lt-ltb, ltb-true, ltb-false, leb-true}
+use borrow.Author.Tests.{lt-ltb}
 use Rattle.paper.specs.Groups.{Reading, done, outgrown}
 use Rattle.paper.specs.Words.{placed}
 use Rattle.texts.specs.Pieces.{isLetter, Piece, word, other, pieces}
@@ -26,8 +26,8 @@ use Rattle.texts.specs.Texts.{
   ofPieces,
   runText,
 }
-use Rattle.texts.specs.PiecesLaws.{bytesOf, joined, joined-pieces, pieces-other, startsOutside, endsOutside, pieces-cut}
-use Rattle.texts.specs.LongestRuns.{either, IsWord, pieces-word}
+use Rattle.texts.specs.PiecesLaws.{joined, joined-pieces, pieces-other, startsOutside, endsOutside, pieces-cut}
+use Rattle.texts.specs.LongestRuns.{either, IsWord, LongestRuns, pieces-longest, pieces-word}
 
 -- Parts of a text one after the other.
 
@@ -55,6 +55,18 @@ unfoldable pub wordCount : List Piece → ℕ
 wordCount [] = 0
 wordCount (word letters ∷ rest) = suc (wordCount rest)
 wordCount (other byte ∷ rest) = wordCount rest
+
+-- A text has no more words than bytes.
+count-within : (list : List Piece) → LongestRuns list → wordCount list ≤ length (joined list)
+unfolding wordCount joined
+count-within [] runs = omega arith
+count-within (word letters ∷ rest) runs =
+    simp length-append (omega (arith, runs .0 .some, count-within rest (runs .2)))
+count-within (other byte ∷ rest) runs = omega (arith, count-within rest (runs .1))
+
+pub words-within : (text : List ℕ) → wordCount (pieces text) ≤ length text
+words-within text =
+    omega (arith, count-within (pieces text) (pieces-longest text), ap length (joined-pieces text))
 
 module _ (rule : List ℕ → Reading) where
   pub ofPieces-append : (front back : List Piece)

@@ -1,20 +1,15 @@
 -- `texts::next_word` meets its contract: the part from the offset to the end of the letters there is the next word.
 -- Assumes nothing.
-use Prim.Native.Nat.{_+_, _-_, _≤_}
-use mathlib.Core.Path.{_≡_, refl, sym, ap, _∙_}
+use Prim.Native.Nat.{_+_}
+use mathlib.Core.Path.{sym, ap, _∙_}
 use borrow.Author.Needs.{needs}
 use native.Mathlib.Omega.{arith}
-use lib.ListN.{length, take, drop}
-use Rattle.texts.specs.Next.{nextWord, nextWordAt}
+use lib.ListN.{drop}
 use Rattle.texts.specs.PiecesLaws.{leading}
-use Rattle.texts.specs.NextLaws.{next-within, next-leading, next-stands}
+use Rattle.texts.specs.NextLaws.{next-within, next-leading}
 use Rattle.texts.proofs.Scan.{part-within, part-leading}
 use Rattle.texts.proofs.next_word.Statement.{statement}
 use Rattle.texts.proofs.next_word.Tie as tie
-use Rattle.texts.proofs.next_word.Reads as reads
-use Rattle.texts.proofs.next_word.Lts as lts
-use Rattle.texts.proofs.next_word_at.Reads as next-word-at-reads
-use Rattle.texts.proofs.word_end.Reads as word-end-reads
 
 next-word-at-requires : tie.Need-next-word-at-requires
 next-word-at-requires c κs = search needs
@@ -37,9 +32,14 @@ part-result-end c =
 returns : tie.Need-returns
 returns c =
     let args = c .before .before .before .before .args in
-    part-leading (args .text .now) _ _ (c .before .word-end .ensures)
-    ∙ ap (λ n. leading (drop n (args .text .now))) (c .before .before .next-word-at .ensures)
-    ∙ sym (next-leading (args .text .now) (args .from))
+    let offset = c .before .before .next-word-at .ensures in
+    record {
+      letters =
+          part-leading (args .text .now) _ _ (c .before .word-end .ensures)
+          ∙ ap (λ n. leading (drop n (args .text .now))) offset
+          ∙ sym (next-leading (args .text .now) (args .from));
+      place = ap (λ n. (args .text .ptr .0, n + args .text .ptr .1)) offset;
+    }
 
 pub next-word-spec : {M : Type 1} → statement M
 next-word-spec =

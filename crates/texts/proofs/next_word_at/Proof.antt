@@ -1,17 +1,14 @@
 -- `texts::next_word_at` meets its contract. The loop's invariant: the gap behind `at` leads to the next word from the place
 -- that was given. Assumes nothing.
 use Prim.Native.Nat.{_+_, _-_, _≤_}
-use mathlib.Core.Path.{_≡_, refl, sym, ap, _∙_}
+use mathlib.Core.Path.{_≡_, sym, _∙_}
 use native.Mathlib.Omega.{arith}
-use lib.ListN.{length, drop, drop-of-length-le}
+use lib.ListN.{length, drop}
 use Rattle.texts.specs.Pieces.{pieces}
 use Rattle.texts.specs.Next.{gap, nextWordAt}
 use Rattle.texts.proofs.Scan.{gap-at-letter, gap-at-other, gap-at-end}
 use Rattle.texts.proofs.next_word_at.Statement.{statement}
 use Rattle.texts.proofs.next_word_at.Tie as tie
-use Rattle.texts.proofs.next_word_at.Reads as reads
-use Rattle.texts.proofs.next_word_at.Lts as lts
-use Rattle.texts.proofs.is_letter.Reads as is-letter-reads
 
 abbrev Inv-loop : tie.InvT-loop
 Inv-loop text from at₀ at = (at ≤ length text) × (at + gap (pieces (drop at text)) ≡ nextWordAt text from)
@@ -34,7 +31,11 @@ is-letter-requires : tie.Need-is-letter-requires Inv-loop μ-loop
 is-letter-requires c κs = tt
 
 returns-2 : tie.Need-returns-2 Inv-loop μ-loop
-returns-2 c = omega (arith, gap-at-letter (c .before .before .before .before .before .before .before .args .text .now) (c .before .before .before .before .loop .at) (c .before .before .before .loop-test .taken) (sym (c .before .is-letter .ensures) ∙ c .if2 .taken))
+returns-2 c =
+    let text = c .before .before .before .before .before .before .before .args .text .now in
+    let at = c .before .before .before .before .loop .at in
+    let inside = c .before .before .before .loop-test .taken in
+    omega (arith, gap-at-letter text at inside (sym (c .before .is-letter .ensures) ∙ c .if2 .taken))
 
 add-at : tie.Need-add-at Inv-loop μ-loop
 add-at c = omega arith
@@ -43,10 +44,16 @@ loop-less : tie.Need-loop-less Inv-loop μ-loop
 loop-less c = omega arith
 
 loop-again : tie.Need-loop-again Inv-loop μ-loop
-loop-again c = omega (arith, gap-at-other (c .before .before .before .before .before .before .before .args .text .now) (c .before .before .before .before .loop .at) (c .before .before .before .loop-test .taken) (sym (c .before .is-letter .ensures) ∙ c .if2 .left))
+loop-again c =
+    let text = c .before .before .before .before .before .before .before .args .text .now in
+    let at = c .before .before .before .before .loop .at in
+    let inside = c .before .before .before .loop-test .taken in
+    omega (arith, gap-at-other text at inside (sym (c .before .is-letter .ensures) ∙ c .if2 .left))
 
 returns-3 : tie.Need-returns-3 Inv-loop μ-loop
-returns-3 c = omega (arith, gap-at-end (c .before .before .before .before .args .text .now) (c .before .loop .at) (c .loop-test .left))
+returns-3 c =
+    let text = c .before .before .before .before .args .text .now in
+    omega (arith, gap-at-end text (c .before .loop .at) (c .loop-test .left))
 
 pub next-word-at-spec : {M : Type 1} → statement M
 next-word-at-spec =

@@ -1,4 +1,4 @@
--- `texts::word_end` meets its contract. The loop's invariant: the leading letters behind `at` end where those from the place
+-- `texts::word_end` meets its contract. The loop's invariant: the leading letters behind `end` end where those from the place
 -- that was given end. Assumes nothing.
 use Prim.Native.Nat.{_+_, _-_, _≤_}
 use mathlib.Core.Path.{_≡_, sym, _∙_}
@@ -10,11 +10,11 @@ use Rattle.texts.proofs.word_end.Statement.{statement}
 use Rattle.texts.proofs.word_end.Tie as tie
 
 abbrev Inv-loop : tie.InvT-loop
-Inv-loop text from at₀ at =
-    (at ≤ length text) × (at + length (leading (drop at text)) ≡ from + length (leading (drop from text)))
+Inv-loop text from end₀ end =
+    (end ≤ length text) × (end + length (leading (drop end text)) ≡ from + length (leading (drop from text)))
 
 abbrev μ-loop : tie.MeasureT-loop
-μ-loop text from at₀ at = length text - at
+μ-loop text from end₀ end = length text - end
 
 loop-holds : tie.Need-loop-holds Inv-loop μ-loop
 loop-holds c = omega arith
@@ -25,20 +25,30 @@ shared-slice-read-is-letter c = omega arith
 is-letter-requires : tie.Need-is-letter-requires Inv-loop μ-loop
 is-letter-requires c κs = tt
 
-add-at : tie.Need-add-at Inv-loop μ-loop
-add-at c = omega arith
+add-end : tie.Need-add-end Inv-loop μ-loop
+add-end c = omega arith
 
 loop-less : tie.Need-loop-less Inv-loop μ-loop
 loop-less c = omega arith
 
 loop-again : tie.Need-loop-again Inv-loop μ-loop
-loop-again c = omega (arith, leading-at-letter (c .before .before .before .before .before .before .args .text .now) (c .before .before .before .before .loop .at) (c .before .before .before .loop-test .taken) (sym (c .before .is-letter .ensures) ∙ c .if1 .taken))
+loop-again c =
+    let text = c .before .before .before .before .before .before .args .text .now in
+    let end = c .before .before .before .before .loop .end in
+    let inside = c .before .before .before .loop-test .taken in
+    omega (arith, leading-at-letter text end inside (sym (c .before .is-letter .ensures) ∙ c .if1 .taken))
 
 returns : tie.Need-returns Inv-loop μ-loop
-returns c = omega (arith, leading-at-other (c .before .before .before .before .before .before .args .text .now) (c .before .before .before .before .loop .at) (c .before .before .before .loop-test .taken) (sym (c .before .is-letter .ensures) ∙ c .if1 .left))
+returns c =
+    let text = c .before .before .before .before .before .before .args .text .now in
+    let end = c .before .before .before .before .loop .end in
+    let inside = c .before .before .before .loop-test .taken in
+    omega (arith, leading-at-other text end inside (sym (c .before .is-letter .ensures) ∙ c .if1 .left))
 
 returns-2 : tie.Need-returns-2 Inv-loop μ-loop
-returns-2 c = omega (arith, leading-at-end (c .before .before .before .args .text .now) (c .before .loop .at) (c .loop-test .left))
+returns-2 c =
+    let text = c .before .before .before .args .text .now in
+    omega (arith, leading-at-end text (c .before .loop .end) (c .loop-test .left))
 
 pub word-end-spec : {M : Type 1} → statement M
 word-end-spec =
@@ -49,7 +59,7 @@ word-end-spec =
     loop-holds
     shared-slice-read-is-letter
     is-letter-requires
-    add-at
+    add-end
     loop-less
     loop-again
     returns
