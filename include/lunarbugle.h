@@ -1,4 +1,4 @@
-/* Lunarbugle: a proved stemmer for English words, for hosts in C and C++.
+/* Lunarbugle: a proved stemmer for English words and texts, for hosts in C and C++.
  *
  * Link with liblunarbugle.a (rt staticlib lunarbugle). No entry keeps a pointer, allocates, or reads or writes anything but
  * the bytes it is lent. Every entry takes any bytes and always returns.
@@ -8,6 +8,7 @@
  *   1  the word has 0 or more than 64 bytes
  *   2  a byte of the word is outside a to z
  *   4  some group's result is longer than the word's place (the shipped rules never give it)
+ *   5  the text has more than 65,536 bytes
  * A refusal, that is any number but 0, leaves every lent byte as it was.
  */
 #ifndef LUNARBUGLE_H
@@ -24,6 +25,15 @@ extern "C" {
  * times the stem's length (0 for a refusal). */
 uint64_t lunarbugle_stem(uint8_t *word, size_t len);
 
+/* The most bytes that lunarbugle_text takes. */
+#define LUNARBUGLE_TEXT_MOST 65536
+
+/* Stems every word of the len bytes at text where it stands. A word is a longest run of A to Z and a to z; every other byte
+ * stays as it is. A word of 1 to 64 letters is made small and stemmed in its own place, as by lunarbugle_stem; a longer one stays
+ * with its capitals. Returns the number, plus 256 times the words stemmed, plus 2^32 times the words left (0 and 0 for a
+ * refusal). What is done at one word does not depend on the rest of the text: a longer text may be cut wherever no word is cut. */
+uint64_t lunarbugle_text(uint8_t *text, size_t len);
+
 #ifdef __cplusplus
 }
 #endif
@@ -38,6 +48,18 @@ static inline unsigned lunarbugle_number(uint64_t answer)
 static inline size_t lunarbugle_stem_length(uint64_t answer)
 {
     return (size_t)(answer / 256);
+}
+
+/* The words stemmed in an answer of lunarbugle_text. */
+static inline size_t lunarbugle_words_stemmed(uint64_t answer)
+{
+    return (size_t)(answer / 256 % 16777216);
+}
+
+/* The words left in an answer of lunarbugle_text. */
+static inline size_t lunarbugle_words_left(uint64_t answer)
+{
+    return (size_t)(answer / 4294967296);
 }
 
 #endif

@@ -1,2 +1,3 @@
--- What the C entries return.
+-- What the C entries return, and that nothing is lost in it.
 pub mod Packed
+pub mod PackedLaws

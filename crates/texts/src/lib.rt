@@ -10,7 +10,7 @@ ghost use Rattle.texts.specs.PiecesLaws.{leading};
 ghost use Rattle.texts.specs.Next.{nextWordAt, NextWord};
 ghost use Rattle.texts.specs.LongestRuns.{allLetters, IsWord};
 ghost use Rattle.texts.specs.Texts.{lowered, ofWord, stemmedTo};
-ghost use Rattle.texts.specs.Answer.{Gives};
+ghost use Rattle.texts.specs.Answer.{numberOf, stemmedOf, leftOf, Gives};
 ghost use Rattle.paper.specs.Words.{stem};
 
 // What a call of the text run answers.
@@ -118,4 +118,35 @@ pub fn run(text: &mut [u8]) -> TextRun
         at = end;
     }
     TextRun::Done { stemmed, left }
+}
+
+// Document 01's number for an answer, and what is returned besides it.
+pub fn number(answer: TextRun) -> u8
+    ensures { λ r. ⌜ r ≡ numberOf answer ⌝ }
+{
+    match answer {
+        TextRun::Done {
+            stemmed: _,
+            left: _,
+        } => 0,
+        TextRun::TooLong => 5,
+    }
+}
+
+pub fn stemmed(answer: TextRun) -> usize
+    ensures { λ r. ⌜ r ≡ stemmedOf answer ⌝ }
+{
+    match answer {
+        TextRun::Done { stemmed, left: _ } => stemmed,
+        TextRun::TooLong => 0,
+    }
+}
+
+pub fn left(answer: TextRun) -> usize
+    ensures { λ r. ⌜ r ≡ leftOf answer ⌝ }
+{
+    match answer {
+        TextRun::Done { stemmed: _, left } => left,
+        TextRun::TooLong => 0,
+    }
 }

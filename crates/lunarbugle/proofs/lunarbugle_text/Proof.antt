@@ -1,0 +1,92 @@
+-- `lunarbugle_text` meets its contract: the numbers of the outcome are small enough to be packed. Assumes nothing.
+use Prim.Native.Nat.{ℕ, _+_, _≤_}
+use mathlib.Core.Path.{_≡_, _∙_}
+use mathlib.Core.List.{List}
+use borrow.Author.Needs.{needs}
+use native.Mathlib.Omega.{arith}
+use Rattle.texts.specs.Texts.{outcome}
+use Rattle.texts.specs.OutcomeLaws.{number-within, counts-within}
+use Rattle.lunarbugle.specs.Packed.{packedText}
+use Rattle.lunarbugle.proofs.lunarbugle_text.Statement.{statement}
+use Rattle.lunarbugle.proofs.lunarbugle_text.Tie as tie
+
+-- the three numbers are the outcome's, and small
+record Told (text : List ℕ) (number stemmed left : ℕ) : Type 0 where
+  is-number : number ≡ outcome text .number
+  is-stemmed : stemmed ≡ outcome text .stemmed
+  is-left : left ≡ outcome text .left
+  small : number ≤ 5
+  few : stemmed + left ≤ 65536
+
+told : (c : tie.After-left)
+    → Told
+    (c .before .before .before .before .before .before .before .before .args .text .now)
+    (c .before .before .number .result)
+    (c .before .stemmed .result)
+    (c .left .result)
+told c =
+    let text = c .before .before .before .before .before .before .before .before .args .text .now in
+    let gives = c .before .before .before .before .before .run .ensures in
+    let stemmed = c .before .stemmed .ensures ∙ gives .stemmed in
+    let left = c .left .ensures ∙ gives .left in
+    let number = c .before .before .number .ensures ∙ gives .number in
+    record {
+      is-number = number;
+      is-stemmed = stemmed;
+      is-left = left;
+      small = omega (arith, number, number-within text);
+      few = omega (arith, stemmed, left, counts-within text);
+    }
+
+run-requires : tie.Need-run-requires
+run-requires c κs = search needs
+
+number-requires : tie.Need-number-requires
+number-requires c κs = search needs
+
+cast-number : tie.Need-cast-number
+cast-number c = search needs
+
+stemmed-requires : tie.Need-stemmed-requires
+stemmed-requires c κs = search needs
+
+left-requires : tie.Need-left-requires
+left-requires c κs = search needs
+
+mul-result : tie.Need-mul-result
+mul-result c = omega (arith, told c .few)
+
+add-result : tie.Need-add-result
+add-result c = omega (arith, told c .small, told c .few)
+
+mul-result-2 : tie.Need-mul-result-2
+mul-result-2 c = omega (arith, told c .few)
+
+add-result-2 : tie.Need-add-result-2
+add-result-2 c = omega (arith, told c .small, told c .few)
+
+same-length : tie.Need-same-length
+same-length c = search needs
+
+returns : tie.Need-returns
+unfolding packedText
+returns c = (
+  omega (arith, told c .is-number, told c .is-stemmed, told c .is-left),
+  c .before .before .before .before .before .run .ensures .bytes,
+)
+
+pub lunarbugle-text-spec : {M : Type 1} → statement M
+lunarbugle-text-spec =
+    tie.close
+    (tie.spec
+    run-requires
+    number-requires
+    cast-number
+    stemmed-requires
+    left-requires
+    mul-result
+    add-result
+    mul-result-2
+    add-result-2
+    same-length
+    returns)

@@ -1,0 +1,2 @@
+-- What the program's functions say of what they read.
+pub mod Input
