@@ -68,10 +68,10 @@ add-left : tie.Need-add-left Inv-loop μ-loop
 add-left c = omega (arith, found (c .before) .inside, c .before .before .before .before .before .before .before .if1 .left)
 
 sub-stem-word : tie.Need-sub-stem-word Inv-loop μ-loop
-sub-stem-word c = omega arith
+sub-stem-word c = omega (arith, turn-on (found (c .before .before)))
 
 part-stem-word-start : tie.Need-part-stem-word-start Inv-loop μ-loop
-part-stem-word-start c = omega arith
+part-stem-word-start c = omega (arith, turn-on (found (c .before .before)))
 
 part-stem-word-end : tie.Need-part-stem-word-end Inv-loop μ-loop
 part-stem-word-end c = end-within (found (c .before .before))
