@@ -1,7 +1,7 @@
 // Reading the parts of a request. `io::read_full` reads on after a short read, so a slow pipe gives
 // the same requests as a file.
 use libc::STDIN_FILENO;
-ghost use Prim.Native.Nat.{_<_};
+ghost use Prim.Native.Nat.{_<_, _^_};
 ghost use Rattle.io.specs.Counts.{Counts};
 
 // How a request starts.
@@ -43,6 +43,41 @@ pub fn read(space: &mut [u8]) -> Argument
         length: length,
         whole: length == wanted,
     }
+}
+
+// The next argument as a table, two bytes for each number. It is not whole, either, if a number is cut.
+pub fn read_table(space: &mut [u16]) -> Argument
+    ensures { λ r. ⌜ Counts (r .length) (now (space .exit)) ⌝ }
+{
+    let mut bytes = [0u8; 32768];
+    let argument = read(&mut bytes);
+    let length = argument.length;
+    let count = numbers(&bytes[..length], space);
+    Argument {
+        length: count,
+        whole: argument.whole & (length == 2 * count),
+    }
+}
+
+// The numbers that these bytes make, put at the start of `space` as far as it goes, and how many they are.
+fn numbers(bytes: &[u8], space: &mut [u16]) -> usize
+    ensures { λ r. ⌜ Counts r (now (space .exit)) ⌝ }
+    ensures { λ r. ⌜ r < 2 ^ 62 ⌝ }
+{
+    let mut i = 0;
+    while i < space.len() {
+        let at = 2 * i;
+        if bytes.len() < at + 2 {
+            return i;
+        }
+        space[i] = pair(bytes[at], bytes[at + 1]);
+        i += 1;
+    }
+    i
+}
+
+fn pair(low: u8, high: u8) -> u16 {
+    (low as u16) + 256 * (high as u16)
 }
 
 // A number that was read, as a place in a text, and whether all of its four bytes came.

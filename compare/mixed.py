@@ -1,0 +1,37 @@
+"""All six kinds of request at once, in one run of probe: what one request leaves behind must not show
+in the next."""
+
+import random
+
+import sheets
+import tables
+import texts
+import words
+from sets import Set
+
+MAKERS = [
+    words.made_words,
+    texts.made_texts,
+    texts.next_words,
+    sheets.well_formed_sheets,
+    sheets.damaged_sheets,
+    sheets.bounded_sheets,
+    sheets.random_sheets,
+    sheets.translations,
+    tables.made_runs,
+    tables.shipped_runs,
+]
+EACH = 250  # requests of a maker in a batch
+
+
+def mixed(batch):
+    rng = random.Random(f"mixed {batch}")
+    requests = []
+    for maker in MAKERS:
+        made = maker(f"mixed {batch}")
+        requests += rng.sample(made, min(EACH, len(made)))
+    rng.shuffle(requests)
+    return requests
+
+
+SETS = [Set("all kinds at once", 4, mixed)]
