@@ -2,13 +2,12 @@
 use Prim.Native.Nat.{ℕ, zero, suc, _+_, _-_, _≤_, _<_}
 use native.Mathlib.Nat.{le-of-suc-le-suc, not-suc-le-zero}
 use native.Mathlib.Omega.{arith}
-use mathlib.Core.Path.{_≡_, refl, ap, sym, _∙_}
-use mathlib.Core.Bool.{Bool, true, false, _&&_, _||_}
+use mathlib.Core.Path.{_≡_, ap, _∙_}
+use mathlib.Core.Bool.{false}
 use mathlib.Core.List.{List, [], _∷_, map}
-use lib.Dec.{eqb}
 use lib.ListN.{getD, List·getD-map}
 use borrow.Author.Tests.{ne-eqb}
-use Rattle.paper.specs.Letters.{letters, among, Class, none, consonant, isConsonant, vowelAfter}
+use Rattle.paper.specs.Letters.{letters, among, Class, none, consonant, vowelAfter}
 use Rattle.letters.specs.Scan.{beforeRow, alphabet, classTable}
 
 -- none of a, e, i, o, u, y

@@ -1,7 +1,7 @@
 -- What the forward scan of `letters` keeps, said of the letters passed. Assumes nothing.
 use Prim.Native.Nat.{ℕ, zero, suc}
 use mathlib.Core.Path.{_≡_}
-use mathlib.Core.Bool.{Bool, true, false, cond}
+use mathlib.Core.Bool.{Bool, cond}
 use mathlib.Core.List.{List, [], _∷_, map}
 use Rattle.paper.specs.Letters.{
   letters,

@@ -1,12 +1,11 @@
 -- Demand 2 for words: every word of 1 to 64 small letters is done, its place afterwards holds its stem and then spaces, and
 -- the value returned is the stem's length. And what holds of every call: its numbers are small. Assumes nothing.
-use Prim.Native.Nat.{ℕ, zero, suc, _+_, _-_, _≤_, _<_}
-use native.Mathlib.Nat.{not-suc-le-zero, le-of-suc-le-suc}
+use Prim.Native.Nat.{ℕ, zero, suc, _-_, _≤_, _<_}
 use native.Mathlib.Decide.{decLe, decLt, ℕ-discrete}
 use native.Mathlib.Omega.{arith}
-use mathlib.Core.Path.{_≡_, refl, ap, sym, subst, _∙_}
-use mathlib.Core.Bool.{true, false, cond}
-use mathlib.Core.List.{List, [], _∷_, _++_}
+use mathlib.Core.Path.{_≡_, refl, ap, _∙_}
+use mathlib.Core.Bool.{true}
+use mathlib.Core.List.{List, [], _∷_}
 use lib.ListN.{length, getD, replicate, length-append, length-replicate}
 use Rattle.paper.specs.Groups.{done}
 use Rattle.paper.specs.LengthLaws.{stem-done}

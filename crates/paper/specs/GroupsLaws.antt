@@ -1,32 +1,14 @@
 -- Laws of endings and of reading a group, over any rule list. Assumes nothing.
-use Prim.Native.Nat.{ℕ, zero, suc, _+_, _-_, _≤_, _<_, max}
-use native.Mathlib.Nat.{not-suc-le-zero}
+use Prim.Native.Nat.{ℕ, _+_, _-_, _≤_, _<_}
 use native.Mathlib.Omega.{arith}
-use mathlib.Core.Path.{_≡_, refl, ap, sym, subst, _∙_}
-use mathlib.Core.Bool.{Bool, true, false, cond, _&&_}
+use mathlib.Core.Path.{_≡_, refl, ap, sym, _∙_}
+use mathlib.Core.Bool.{Bool, true, false, _&&_}
 use mathlib.Core.List.{List, [], _∷_, _++_}
-use mathlib.Core.Option.{Option, none, some}
 use lib.Dec.{eqb}
 use lib.ListN.{length, take, drop, getD, length-take, length-drop, length-append, take-append-drop}
 use lib.Seq.{ext-getD, getD-drop}
 use borrow.Author.Tests.{eq-eqb, eqb-true}
-use Rattle.paper.specs.Conditions.{holds}
-use Rattle.paper.specs.Groups.{
-  Action,
-  replace,
-  single-letter,
-  Rule,
-  same,
-  endsWith,
-  before,
-  which,
-  first,
-  fitting,
-  longest,
-  chosen,
-  obeyed,
-  act,
-}
+use Rattle.paper.specs.Groups.{same, endsWith, before}
 
 -- ══ Two lists of letters are the same ══
 

@@ -1,15 +1,14 @@
 -- When a group's result is no longer than its word, over any rule list; and that no shipped group's result is longer than
 -- the word's place, so that every word is done (demand 2). Assumes nothing.
-use Prim.Native.Nat.{ℕ, zero, suc, _+_, _-_, _≤_}
+use Prim.Native.Nat.{ℕ, _+_, _≤_}
 use native.Mathlib.Omega.{arith}
-use mathlib.Core.Path.{_≡_, refl, ap, sym, subst, _∙_}
+use mathlib.Core.Path.{_≡_, refl}
 use mathlib.Core.Bool.{Bool, true, false, cond, _&&_}
-use mathlib.Core.List.{List, [], _∷_, _++_}
+use mathlib.Core.List.{List, [], _∷_}
 use mathlib.Core.Option.{Option, none, some}
-use lib.Dec.{T, leb}
-use lib.ListN.{length, take, length-append, length-take}
+use lib.Dec.{leb}
+use lib.ListN.{length, length-append, length-take}
 use borrow.Author.Tests.{le-leb, leb-true}
-use Rattle.paper.specs.Letters.{letters}
 use Rattle.paper.specs.Groups.{
   Action,
   replace,
@@ -33,21 +32,7 @@ use Rattle.paper.specs.Groups.{
 }
 use Rattle.paper.specs.GroupsLaws.{and-both, before-length, ending-short}
 use Rattle.paper.specs.ReadingLaws.{every, every-in, obeyed-first}
-use Rattle.paper.specs.Shipped.{
-  rule,
-  opening,
-  single,
-  group-1a,
-  group-1b,
-  follow-up,
-  group-1c,
-  group-2,
-  group-3,
-  group-4,
-  group-5a,
-  group-5b,
-  shipped,
-}
+use Rattle.paper.specs.Shipped.{rule, shipped}
 use Rattle.paper.specs.Words.{readWord, stem}
 
 -- how many letters an action writes
@@ -147,8 +132,7 @@ tame-done place (group ∷ groups) opened word t fits =
 -- ══ The shipped rules ══
 
 shipped-tame : tame shipped ≡ true
-unfolding tame every tame-rule letters rule opening single group-1a group-1b follow-up group-1c group-2 group-3 group-4 group-5a
-    group-5b shipped
+unfolding tame every tame-rule shipped
 shipped-tame = refl
 
 -- every word has a stem that fits its place: refusal 4 never comes of the shipped rules

@@ -1,30 +1,15 @@
 -- What one letter more does to the class of the last letters, the measure and `*v*`: how a forward scan follows the
 -- definitions. Assumes nothing.
-use Prim.Native.Nat.{ℕ, zero, suc, _+_, _-_, _≤_, _<_}
-use native.Mathlib.Nat.{not-suc-le-zero, le-refl, le-trans}
+use Prim.Native.Nat.{ℕ, suc, _+_, _-_, _≤_, _<_}
+use native.Mathlib.Nat.{not-suc-le-zero, le-refl}
 use native.Mathlib.Decide.{decLt}
 use native.Mathlib.Omega.{arith}
-use mathlib.Core.Path.{_≡_, refl, ap, _∙_}
-use mathlib.Core.Bool.{Bool, true, false, cond, _||_, or-true}
+use mathlib.Core.Path.{_≡_}
+use mathlib.Core.Bool.{true, _||_, or-true}
 use mathlib.Core.List.{List, [], _∷_, _++_, reverse, reverse-append, reverse-cons, append-nil, append-assoc}
-use lib.ListN.{length, drop, getD, length-reverse, List·getD-append}
+use lib.ListN.{length, getD, length-reverse, List·getD-append}
 use lib.Seq.{getD-append-seam}
-use Rattle.paper.specs.Letters.{
-  Class,
-  none,
-  consonant,
-  vowel,
-  isVowel,
-  vowelAfter,
-  classAfter,
-  inward,
-  classOf,
-  letterAt,
-  classAt,
-  rise,
-  rises,
-  measure,
-}
+use Rattle.paper.specs.Letters.{isVowel, classAfter, inward, classOf, letterAt, classAt, rise, rises, measure}
 use Rattle.paper.specs.Conditions.{someVowel, *v*}
 
 pub inward-more : (part : List ℕ) (letter : ℕ) → inward (part ++ letter ∷ []) ≡ letter ∷ inward part

@@ -1,5 +1,5 @@
 -- Laws of how a group is read, over any rule list: which ending is chosen, and which rule is obeyed. Assumes nothing.
-use Prim.Native.Nat.{ℕ, suc, _-_, _≤_, max}
+use Prim.Native.Nat.{ℕ, _-_, _≤_, max}
 use native.Mathlib.Omega.{arith}
 use mathlib.Core.Path.{_≡_, refl, ap, sym, subst, _∙_}
 use mathlib.Core.Bool.{Bool, true, false, cond, true≢false, _&&_, and-false}
@@ -16,26 +16,13 @@ use mathlib.Core.List.{
   Memᴰ·append-right,
 }
 use mathlib.Core.Logic.{_⊎_, inl, inr, ⊎-elim}
-use mathlib.Core.Option.{Option, none, some}
+use mathlib.Core.Option.{Option, some}
 use lib.Dec.{eqb}
 use lib.ListN.{length, take}
 use borrow.Author.Tests.{eqb-true, eq-eqb, ne-eqb}
 use Rattle.paper.specs.Conditions.{holds}
 use Rattle.paper.specs.GroupsLaws.{and-both}
-use Rattle.paper.specs.Groups.{
-  Rule,
-  endsWith,
-  before,
-  which,
-  first,
-  fitting,
-  longest,
-  chosen,
-  obeyed,
-  Result,
-  resultOf,
-  readGroup,
-}
+use Rattle.paper.specs.Groups.{Rule, endsWith, before, which, first, fitting, longest, chosen, obeyed}
 
 -- ══ The rules that pass a test, and the first of them ══
 

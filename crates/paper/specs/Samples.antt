@@ -3,8 +3,7 @@
 use Prim.Native.Nat.{ℕ}
 use Prim.Native.String.{String}
 use mathlib.Core.Path.{_≡_, refl}
-use mathlib.Core.Bool.{Bool, true, false, cond, not, _&&_, _||_}
-use mathlib.Core.List.{List, [], _∷_, _++_, map, reverse}
+use mathlib.Core.List.{List, [], _∷_, map}
 use Rattle.paper.specs.Letters.{
   letters,
   among,
@@ -18,38 +17,8 @@ use Rattle.paper.specs.Letters.{
   measure,
 }
 use Rattle.paper.specs.Conditions.{someVowel, *v*, *d, *o, lastIs, conditions, holds}
-use Rattle.paper.specs.Groups.{
-  Reading,
-  done,
-  same,
-  endsWith,
-  before,
-  which,
-  first,
-  fitting,
-  longest,
-  chosen,
-  obeyed,
-  act,
-  resultOf,
-  readGroup,
-  read,
-}
-use Rattle.paper.specs.Shipped.{
-  rule,
-  opening,
-  single,
-  group-1a,
-  group-1b,
-  follow-up,
-  group-1c,
-  group-2,
-  group-3,
-  group-4,
-  group-5a,
-  group-5b,
-  shipped,
-}
+use Rattle.paper.specs.Groups.{done, same, endsWith, before, which, first, fitting, longest, chosen, obeyed, act, resultOf, readGroup, read}
+use Rattle.paper.specs.Shipped.{shipped}
 use Rattle.paper.specs.Words.{readWord, stem}
 
 -- a word and its stem
@@ -73,9 +42,7 @@ samples =
     ∷ []
 
 pub samples-hold : map (λ s. stem (letters (s .0))) samples ≡ map (λ s. done (letters (s .1))) samples
-unfolding letters among vowelAfter classAfter inward classOf letterAt classAt rises measure someVowel *v* *d *o lastIs
-    conditions holds same endsWith before which first fitting longest chosen obeyed act resultOf readGroup read rule opening
-    single group-1a group-1b follow-up group-1c group-2 group-3 group-4 group-5a group-5b shipped readWord stem samples
+unfolding among vowelAfter classAfter inward classOf letterAt classAt rises measure someVowel *v* *d *o lastIs conditions holds same endsWith before which first fitting longest chosen obeyed act resultOf readGroup read shipped readWord stem samples
 samples-hold = refl
 
 -- a part and its measure

@@ -4,7 +4,7 @@ use Prim.Native.String.{String}
 use mathlib.Core.Bool.{true, false}
 use mathlib.Core.List.{List, [], _∷_, _++_, map}
 use Rattle.paper.specs.Letters.{letters}
-use Rattle.paper.specs.Groups.{Rule, Action, replace, single-letter, Gate, always, if-opened, Group}
+use Rattle.paper.specs.Groups.{Rule, replace, single-letter, always, if-opened, Group}
 
 -- condition, ending, replacement
 unfoldable pub rule : ℕ → String → String → Rule
@@ -83,7 +83,9 @@ group-5b = single 8 ∷ []
 abbrev group : List Rule → Group
 group rules = record { gate = always; rules = rules }
 
+-- (what a definition names on its `unfolding` line opens with it, so that whoever opens this one can compute with the list)
 unfoldable pub shipped : List Group
+unfolding letters rule opening single group-1a group-1b follow-up group-1c group-2 group-3 group-4 group-5a group-5b
 shipped =
     group group-1a
     ∷ group group-1b

@@ -1,16 +1,15 @@
 -- One group more, as a loop over the groups goes. Over any groups. Assumes nothing.
-use Prim.Native.Nat.{ℕ, suc, _+_, _≤_, _<_}
+use Prim.Native.Nat.{ℕ, _+_, _≤_, _<_}
 use native.Mathlib.Numerals.{add-one}
-use mathlib.Core.Path.{_≡_, refl, ap, sym, _∙_}
-use mathlib.Core.Bool.{Bool, true, false, cond}
-use mathlib.Core.List.{List, _∷_}
+use mathlib.Core.Path.{_≡_}
+use mathlib.Core.Bool.{Bool, true, false}
+use mathlib.Core.List.{List}
 use native.Mathlib.Decide.{decLe}
 use native.Mathlib.Omega.{arith}
-use lib.Dec.{leb}
 use lib.ListN.{length, drop, getD}
 use lib.Seq.{drop-cons}
 use borrow.Author.Tests.{le-leb, lt-leb}
-use Rattle.paper.specs.Groups.{Group, Result, readGroup, runs, Reading, outgrown, read}
+use Rattle.paper.specs.Groups.{Group, readGroup, runs, outgrown, read}
 
 module _ (place : ℕ) (groups : List Group) (other : Group) (k : ℕ) (known : k < length groups) (opened : Bool) (word : List ℕ) where
   pub skipped :

@@ -2,23 +2,8 @@
 use mathlib.Core.Path.{_≡_, refl, ap, _∙_}
 use mathlib.Core.Bool.{true}
 use lib.ListN.{length}
-use Rattle.paper.specs.Letters.{letters}
 use Rattle.paper.specs.Groups.{same}
-use Rattle.paper.specs.Shipped.{
-  rule,
-  opening,
-  single,
-  group-1a,
-  group-1b,
-  follow-up,
-  group-1c,
-  group-2,
-  group-3,
-  group-4,
-  group-5a,
-  group-5b,
-  shipped,
-}
+use Rattle.paper.specs.Shipped.{shipped}
 use Rattle.sheets.specs.Bytes.{
   two,
   recordOf,
@@ -43,18 +28,15 @@ use Rattle.sheets.specs.ReadBack.{read-back}
 use Rattle.sheets.specs.declared.Checked.the-variants.{Accepted}
 
 pub size : length (sheetOf shipped) ≡ 861
-unfolding letters rule opening single group-1a group-1b follow-up group-1c group-2 group-3 group-4 group-5a group-5b shipped two
-    recordOf gateBody ruleBody rulesBytes groupsBytes sheetOf
+unfolding shipped two recordOf gateBody ruleBody rulesBytes groupsBytes sheetOf
 size = refl
 
 pub within-bounds : bounded shipped ≡ true
-unfolding letters rule opening single group-1a group-1b follow-up group-1c group-2 group-3 group-4 group-5a group-5b shipped
-    onlyLetters atMost12 allowedAction allowed allAllowed groupsAllowed ruleCount bounded
+unfolding shipped onlyLetters atMost12 allowedAction allowed allAllowed groupsAllowed ruleCount bounded
 within-bounds = refl
 
 pub nodes : nodeCount shipped ≡ 162
-unfolding letters rule opening single group-1a group-1b follow-up group-1c group-2 group-3 group-4 group-5a group-5b shipped same
-    tails tailsOf member distinct nodeCount
+unfolding shipped same tails tailsOf member distinct nodeCount
 nodes = refl
 
 pub reads : readSheet (sheetOf shipped) ≡ accepted shipped

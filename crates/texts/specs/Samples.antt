@@ -31,21 +31,7 @@ use Rattle.paper.specs.Groups.{
   readGroup,
   read,
 }
-use Rattle.paper.specs.Shipped.{
-  rule,
-  opening,
-  single,
-  group-1a,
-  group-1b,
-  follow-up,
-  group-1c,
-  group-2,
-  group-3,
-  group-4,
-  group-5a,
-  group-5b,
-  shipped,
-}
+use Rattle.paper.specs.Shipped.{shipped}
 use Rattle.paper.specs.Words.{readWord, stem, placed}
 use Rattle.texts.specs.Pieces.{isLetter, withLetter, pieces}
 use Rattle.texts.specs.Texts.{lowered, Ran, answered, ofWord, ofPiece, ofPieces, runText}
@@ -75,8 +61,5 @@ abbrev gives : Sample → Ran
 gives s = record { text = letters (s .after); stemmed = s .stemmed; left = s .left }
 
 pub samples-hold : map (λ s. runText stem (letters (s .given))) samples ≡ map gives samples
-unfolding letters among vowelAfter classAfter inward classOf letterAt classAt rises measure someVowel *v* *d *o lastIs
-    conditions holds same endsWith before which first fitting longest chosen obeyed act resultOf readGroup read rule opening
-    single group-1a group-1b follow-up group-1c group-2 group-3 group-4 group-5a group-5b shipped readWord stem placed
-    isLetter withLetter pieces lowered answered ofWord ofPiece ofPieces runText samples
+unfolding among vowelAfter classAfter inward classOf letterAt classAt rises measure someVowel *v* *d *o lastIs conditions holds same endsWith before which first fitting longest chosen obeyed act resultOf readGroup read shipped readWord stem placed isLetter withLetter pieces lowered answered ofWord ofPiece ofPieces runText samples
 samples-hold = refl

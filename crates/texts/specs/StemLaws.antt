@@ -1,12 +1,11 @@
 -- Our word rule: it never lengthens a word, so all that is shown of a text run by such a rule holds of ours; and a call of
 -- the word stemmer on a word made small does what the text run wants of it. Assumes nothing.
 use Prim.Native.Nat.{ℕ, _≤_}
-use mathlib.Core.Path.{_≡_, ap, _∙_}
+use mathlib.Core.Path.{_≡_, ap}
 use mathlib.Core.List.{List, map}
 use native.Mathlib.Omega.{arith}
 use lib.ListN.{length, length-map}
 use borrow.Author.Tests.{le-ltb}
-use Rattle.paper.specs.Groups.{done}
 use Rattle.paper.specs.Words.{stem, placed, outcome as outcomeOfWord}
 use Rattle.paper.specs.LengthLaws.{stem-done}
 use Rattle.paper.specs.Demand2.{Stemmed-to, demand-2}

@@ -1,7 +1,6 @@
 -- The index by group and last letter holds, for every word, all the rules of the group that can end it. Assumes nothing.
 use Prim.Native.Nat.{ℕ, zero, suc, _+_, _-_, _*_, _≤_, _<_}
 use native.Mathlib.Nat.{not-suc-le-zero, le-of-suc-le-suc}
-use native.Mathlib.Numerals.{add-one}
 use native.Mathlib.Omega.{arith}
 use mathlib.Core.Path.{_≡_, refl, ap, sym, _∙_}
 use mathlib.Core.Bool.{Bool, true, false, cond, _&&_, _||_}
@@ -11,26 +10,12 @@ use mathlib.Core.Option.{Option}
 use lib.ListN.{length, take, drop, getD, length-append, length-reverse, List·getD-append}
 use lib.Seq.{getD-append-add, getD-at}
 use borrow.Author.Tests.{eq-eqb}
-use Rattle.paper.specs.Letters.{letters, letterAt, inward}
+use Rattle.paper.specs.Letters.{letterAt, inward}
 use Rattle.paper.specs.Groups.{Rule, Group, endsWith, before, which, first, fitting, longest, obeyed}
 use Rattle.paper.specs.GroupsLaws.{and-both, ends-split}
 use Rattle.paper.specs.ReadingLaws.{every, every-in, narrowed, same-fitting, obeys, obeyed-in-turn}
 use Rattle.paper.specs.Words.{small}
-use Rattle.paper.specs.Shipped.{
-  rule,
-  opening,
-  single,
-  group-1a,
-  group-1b,
-  follow-up,
-  group-1c,
-  group-2,
-  group-3,
-  group-4,
-  group-5a,
-  group-5b,
-  shipped,
-}
+use Rattle.paper.specs.Shipped.{shipped}
 use Rattle.words.proofs.Joined.{starts-length, between}
 use Rattle.words.specs.Tables.{rulesOf, rules, noRule, ruleAt, may, numbers, byLetter, byGroup, candidates, candidateNumbers, candidateStarts, noGroup, groupRules, AllBelow, Column}
 
@@ -142,8 +127,7 @@ tidy-at zero (group ∷ groups) t = and-both (every tidy (group .rules)) (groups
 tidy-at (suc g) (group ∷ groups) t = tidy-at g groups (and-both (every tidy (group .rules)) (groups-tidy groups) t .1)
 
 shipped-tidy : groups-tidy shipped ≡ true
-unfolding groups-tidy every tidy letterAt inward letters rule opening single group-1a group-1b follow-up group-1c group-2 group-3 group-4
-    group-5a group-5b shipped
+unfolding groups-tidy every tidy letterAt inward shipped
 shipped-tidy = refl
 
 ends-may : (word : List ℕ) (c : ℕ) (one : Rule) → Column word c → tidy one ≡ true → endsWith word (one .ending) ≡ true → may (97 + c) one ≡ true

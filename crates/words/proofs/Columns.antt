@@ -4,26 +4,12 @@ use native.Mathlib.Nat.{not-suc-le-zero, le-of-suc-le-suc}
 use native.Mathlib.Omega.{arith}
 use mathlib.Core.Path.{_≡_, refl, ap, sym, _∙_}
 use mathlib.Core.Bool.{Bool, true, false, cond, _||_}
-use mathlib.Core.List.{List, [], _∷_, _++_, map}
+use mathlib.Core.List.{List, [], _∷_, map}
 use lib.Dec.{eqb}
 use lib.ListN.{length, take, drop, getD, length-map, List·getD-map}
 use Rattle.paper.specs.Letters.{letters}
 use Rattle.paper.specs.Groups.{Action, replace, single-letter, Rule, Gate, always, if-opened, Group, runs}
-use Rattle.paper.specs.Shipped.{
-  rule,
-  opening,
-  single,
-  group-1a,
-  group-1b,
-  follow-up,
-  group-1c,
-  group-2,
-  group-3,
-  group-4,
-  group-5a,
-  group-5b,
-  shipped,
-}
+use Rattle.paper.specs.Shipped.{shipped}
 use Rattle.words.specs.Tables.{
   joined,
   starts,
@@ -50,7 +36,7 @@ use Rattle.words.specs.Tables.{
 use Rattle.words.proofs.Joined.{starts-length, between}
 
 pub rule-count : length rules ≡ 62
-unfolding rules rulesOf shipped group-1a group-1b follow-up group-1c group-2 group-3 group-4 group-5a group-5b
+unfolding rules rulesOf shipped
 rule-count = refl
 
 -- a table of letters, one list for each rule, with where each starts, at a rule's number

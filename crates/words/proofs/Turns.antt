@@ -1,30 +1,15 @@
 -- What choosing a rule by its number comes to in the reading of a group. Assumes nothing.
 use Prim.Native.Nat.{ℕ, _+_, _-_, _≤_, _<_}
 use native.Mathlib.Omega.{arith}
-use mathlib.Core.Path.{_≡_, refl, ap, sym, _∙_}
-use mathlib.Core.Bool.{Bool, true, false, cond, _||_}
-use mathlib.Core.List.{List, _++_}
-use mathlib.Core.Option.{Option, none, some}
+use mathlib.Core.Path.{_≡_, refl, sym, _∙_}
+use mathlib.Core.Bool.{Bool, true, false, _||_}
+use mathlib.Core.List.{List}
+use mathlib.Core.Option.{some}
 use lib.Dec.{eqb}
 use lib.ListN.{length, take, drop, getD, length-append}
 use lib.Seq.{length-take-le, take-take}
 use borrow.Author.Tests.{lt-ltb}
-use Rattle.paper.specs.Groups.{
-  Action,
-  replace,
-  single-letter,
-  Rule,
-  before,
-  obeyed,
-  act,
-  Result,
-  resultOf,
-  readGroup,
-  Reading,
-  done,
-  outgrown,
-  read,
-}
+use Rattle.paper.specs.Groups.{Action, replace, single-letter, Rule, before, obeyed, act, resultOf, readGroup, done, outgrown, read}
 use Rattle.paper.specs.Shipped.{shipped}
 use Rattle.paper.specs.StepLaws.{skipped, fits, ran}
 use Rattle.paper.specs.LengthLaws.{stem-done}

@@ -5,7 +5,7 @@ use mathlib.Core.Path.{_≡_, refl, sym, ap₂, _∙_}
 use mathlib.Core.Bool.{cond}
 use lib.Dec.{eqb}
 use mathlib.Core.List.{List}
-use Rattle.paper.specs.Words.{Outcome, outcome}
+use Rattle.paper.specs.Words.{outcome}
 use Rattle.words.specs.declared.Stemmed.{Stemmed}
 use Rattle.words.specs.declared.Stemmed.the-variants.{Done, WrongLength, OtherByte, Outgrown}
 

@@ -7,24 +7,10 @@ use mathlib.Core.List.{List, [], _∷_, _++_, map}
 use mathlib.Core.Option.{Option, none, some}
 use lib.Dec.{eqb, ltb}
 use lib.ListN.{length, getD}
-use Rattle.paper.specs.Letters.{letters, letterAt, inward}
+use Rattle.paper.specs.Letters.{letterAt, inward}
 use Rattle.paper.specs.Groups.{Action, replace, single-letter, Rule, Gate, always, if-opened, Group}
 use Rattle.paper.specs.Words.{small}
-use Rattle.paper.specs.Shipped.{
-  rule,
-  opening,
-  single,
-  group-1a,
-  group-1b,
-  follow-up,
-  group-1c,
-  group-2,
-  group-3,
-  group-4,
-  group-5a,
-  group-5b,
-  shipped,
-}
+use Rattle.paper.specs.Shipped.{shipped}
 
 -- lists one after the other, and where each starts, with the end of the last
 unfoldable pub joined : List (List ℕ) → List ℕ
@@ -42,7 +28,7 @@ rulesOf (group ∷ groups) = group .rules ++ rulesOf groups
 
 -- (what a definition of this file names on its `unfolding` line opens with it, so that it can be held against a table)
 unfoldable pub rules : List Rule
-unfolding rulesOf letters rule opening single group-1a group-1b follow-up group-1c group-2 group-3 group-4 group-5a group-5b shipped
+unfolding rulesOf shipped
 rules = rulesOf shipped
 
 -- the rules of the group of this number, counted from 0
@@ -116,7 +102,7 @@ unfolding rules
 openings = map (λ rule. digit (cond (rule .opens) 1 0)) rules
 
 unfoldable pub gateDigits : List ℕ
-unfolding letters rule opening single group-1a group-1b follow-up group-1c group-2 group-3 group-4 group-5a group-5b shipped
+unfolding shipped
 gateDigits = map (λ group. digit (gateNumber (group .gate))) shipped
 
 -- a word whose last letter is this one may end with the rule's ending
@@ -139,7 +125,7 @@ byGroup from [] = []
 byGroup from (group ∷ groups) = byLetter 97 26 from (group .rules) ++ byGroup (from + length (group .rules)) groups
 
 unfoldable pub candidates : List (List ℕ)
-unfolding byGroup byLetter numbers may letterAt inward letters rule opening single group-1a group-1b follow-up group-1c group-2 group-3 group-4 group-5a group-5b shipped
+unfolding byGroup byLetter numbers may letterAt inward shipped
 candidates = byGroup 0 shipped
 
 unfoldable pub candidateNumbers : List ℕ

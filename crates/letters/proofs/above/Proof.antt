@@ -1,9 +1,9 @@
 -- `letters::above` meets its contract: letters that follow never take away from the measure. Assumes nothing.
-use Prim.Native.Nat.{ℕ, _+_, _-_, _≤_, _<_}
+use Prim.Native.Nat.{_+_, _-_, _≤_}
 use borrow.Author.Needs.{needs}
 use borrow.Author.Tests.{lt-ltb, le-ltb}
 use native.Mathlib.Omega.{arith}
-use mathlib.Core.Path.{_≡_, refl, sym, _∙_}
+use mathlib.Core.Path.{refl, sym}
 use lib.ListN.{length}
 use Rattle.paper.specs.Letters.{letters, among, vowelAfter, measure as measureOf}
 use Rattle.letters.specs.Scan.{alphabet, classTable}

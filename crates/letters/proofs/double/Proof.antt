@@ -1,7 +1,5 @@
 -- `letters::double` meets its contract: the scan's class numbers are the classes. Assumes nothing.
 use borrow.Author.Needs.{needs}
-use mathlib.Core.Path.{_≡_}
-use Rattle.paper.specs.Letters.{classAt}
 use Rattle.paper.specs.Conditions.{*d}
 use Rattle.letters.proofs.Steps.{consonant-number}
 use Rattle.letters.proofs.double.Statement.{statement}

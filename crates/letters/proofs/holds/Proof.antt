@@ -1,8 +1,6 @@
 -- `letters::holds` meets its contract; without a last letter l condition 8 does not hold. Assumes nothing.
 use borrow.Author.Needs.{needs}
 use borrow.Author.Tests.{ne-eqb}
-use native.Mathlib.Omega.{arith}
-use mathlib.Core.Path.{_≡_, _∙_}
 use mathlib.Core.Bool.{and-false}
 use Rattle.paper.specs.Conditions.{lastIs, conditions, holds}
 use Rattle.letters.proofs.holds.Statement.{statement}

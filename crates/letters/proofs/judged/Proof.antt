@@ -1,8 +1,7 @@
 -- `letters::judged` meets its contract: each arm is the condition of its number. Assumes nothing.
 use Prim.Native.Nat.{_≤_}
 use borrow.Author.Needs.{needs}
-use native.Mathlib.Omega.{arith}
-use mathlib.Core.Path.{_≡_, sym}
+use mathlib.Core.Path.{sym}
 use mathlib.Core.Bool.{false}
 use lib.ListN.{List·getD-eq-default}
 use Rattle.paper.specs.Conditions.{lastIs, conditions, holds}

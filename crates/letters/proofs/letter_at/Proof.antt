@@ -1,7 +1,6 @@
 -- `letters::letter_at` meets its contract. Assumes nothing.
 use Prim.Native.Nat.{_≤_}
 use borrow.Author.Needs.{needs}
-use native.Mathlib.Omega.{arith}
 use mathlib.Core.Path.{sym}
 use lib.ListN.{length, List·getD-eq-default, length-reverse}
 use Rattle.paper.specs.Letters.{letterAt, inward}

@@ -1,8 +1,8 @@
 -- `letters::scan` meets its contract: at the loop's head the numbers are those of the letters passed. Assumes nothing.
-use Prim.Native.Nat.{ℕ, _+_, _-_, _≤_, _<_}
+use Prim.Native.Nat.{_-_}
 use borrow.Author.Needs.{needs}
 use native.Mathlib.Omega.{arith}
-use mathlib.Core.Path.{_≡_, refl, sym, _∙_}
+use mathlib.Core.Path.{refl}
 use lib.ListN.{length}
 use Rattle.paper.specs.Letters.{letters, among, vowelAfter}
 use Rattle.letters.specs.Scan.{alphabet, classTable}

@@ -1,8 +1,7 @@
 -- `letters::short` meets its contract: the scan's class numbers are the classes. Assumes nothing.
 use borrow.Author.Needs.{needs}
-use mathlib.Core.Path.{_≡_}
 use mathlib.Core.Bool.{or-false}
-use Rattle.paper.specs.Letters.{letters, among, classAt}
+use Rattle.paper.specs.Letters.{letters, among}
 use Rattle.paper.specs.Conditions.{*o}
 use Rattle.letters.proofs.Steps.{consonant-number, vowel-number}
 use Rattle.letters.proofs.short.Statement.{statement}

@@ -1,7 +1,7 @@
 -- `letters::step` meets its contract: each way out is one of the two laws of a step. Assumes nothing.
 use borrow.Author.Needs.{needs}
 use native.Mathlib.Omega.{arith}
-use mathlib.Core.Path.{_≡_, refl, sym, ap, _∙_}
+use mathlib.Core.Path.{sym, _∙_}
 use Prim.Native.Nat.{_+_}
 use borrow.Author.Tests.{eq-eqb, ne-eqb}
 use Rattle.letters.proofs.Steps.{after-vowel, after-consonant}

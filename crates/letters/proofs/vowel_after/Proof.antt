@@ -2,12 +2,12 @@
 -- nothing.
 use borrow.Author.Needs.{needs}
 use native.Mathlib.Omega.{arith}
-use mathlib.Core.Path.{_≡_, sym, ap, _∙_}
+use mathlib.Core.Path.{sym, ap, _∙_}
 use mathlib.Core.Bool.{Bool, false}
 use mathlib.Core.List.{List, []}
 use lib.ListN.{getD}
 use Prim.Native.Nat.{_-_}
-use Rattle.letters.specs.Scan.{beforeRow, classTable}
+use Rattle.letters.specs.Scan.{beforeRow}
 use Rattle.letters.proofs.Classes.{below-a, above-z, in-table}
 use Rattle.letters.proofs.vowel_after.Statement.{statement}
 use Rattle.letters.proofs.vowel_after.Tie as tie

@@ -1,7 +1,7 @@
 -- `words::ends` meets its contract. Assumes nothing.
 use borrow.Author.Needs.{needs}
 use native.Mathlib.Omega.{arith}
-use mathlib.Core.Path.{_≡_, ap}
+use mathlib.Core.Path.{ap}
 use lib.ListN.{length}
 use Rattle.words.proofs.Columns.{ending-row}
 use Rattle.words.proofs.ends.Statement.{statement}

@@ -1,9 +1,8 @@
 -- `words::fill` meets its contract: at the loop's head spaces stand in the places passed. Assumes nothing.
 use Prim.Native.Nat.{ℕ, suc, _+_, _-_, _≤_, _<_}
-use native.Mathlib.Numerals.{add-one}
 use native.Mathlib.Omega.{arith}
 use mathlib.Core.Path.{_≡_, refl, sym, ap, ap₂, _∙_}
-use mathlib.Core.List.{List, [], _∷_, _++_, append-nil}
+use mathlib.Core.List.{List, _++_, append-nil}
 use lib.ListN.{length, take, replicate, set, getD, length-set, length-replicate, getD-replicate}
 use lib.Seq.{paste, paste-zero, paste-suc, take-all, drop-length}
 use Rattle.words.proofs.fill.Statement.{statement}

@@ -1,7 +1,6 @@
 -- `words::size` meets its contract. Assumes nothing.
 use borrow.Author.Needs.{needs}
 use native.Mathlib.Omega.{arith}
-use mathlib.Core.Path.{_≡_}
 use Rattle.words.proofs.Columns.{ending-row}
 use Rattle.words.proofs.size.Statement.{statement}
 use Rattle.words.proofs.size.Tie as tie

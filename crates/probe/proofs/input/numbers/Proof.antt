@@ -1,5 +1,5 @@
 -- `probe::input::numbers` meets its contract: what it counts lies within the space. Assumes nothing.
-use Prim.Native.Nat.{_+_, _-_, _*_, _^_, _≤_, _<_}
+use Prim.Native.Nat.{_-_, _^_, _≤_, _<_}
 use borrow.Author.Needs.{needs}
 use native.Mathlib.Omega.{arith}
 use mathlib.Core.Path.{_≡_, refl}

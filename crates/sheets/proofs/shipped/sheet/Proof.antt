@@ -1,29 +1,13 @@
 -- `sheets::shipped::sheet` meets its contract: the constant is what the bytes of the shipped rules compute to.
 -- Assumes nothing.
 use mathlib.Core.Path.{refl}
-use Rattle.paper.specs.Letters.{letters}
-use Rattle.paper.specs.Shipped.{
-  rule,
-  opening,
-  single,
-  group-1a,
-  group-1b,
-  follow-up,
-  group-1c,
-  group-2,
-  group-3,
-  group-4,
-  group-5a,
-  group-5b,
-  shipped,
-}
+use Rattle.paper.specs.Shipped.{shipped}
 use Rattle.sheets.specs.Bytes.{two, recordOf, gateBody, ruleBody, rulesBytes, groupsBytes, sheetOf}
 use Rattle.sheets.proofs.shipped.sheet.Statement.{statement}
 use Rattle.sheets.proofs.shipped.sheet.Tie as tie
 
 returns : tie.Need-returns
-unfolding letters rule opening single group-1a group-1b follow-up group-1c group-2 group-3 group-4 group-5a group-5b shipped two
-    recordOf gateBody ruleBody rulesBytes groupsBytes sheetOf
+unfolding shipped two recordOf gateBody ruleBody rulesBytes groupsBytes sheetOf
 returns c = refl
 
 pub sheet-spec : {M : Type 1} → statement M
