@@ -17,7 +17,7 @@ extern size_t word_count;
    number of rounds. */
 size_t begin(int count, char **arguments);
 
-/* Nanoseconds on a clock that only goes forward. */
+/* Nanoseconds of this process on a processor: what it waits for one does not count. */
 double now(void);
 
 /* Sorts the times of all rounds, so that the best stands first and the median in the middle. */
