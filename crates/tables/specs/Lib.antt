@@ -1,0 +1,8 @@
+-- Document 01, "The table". First the definitions: the layout and the walk; then what is shown of them.
+pub mod Layout
+pub mod Samples
+pub mod Walk
+pub mod Faithful
+pub mod TestLaws
+pub mod NumberLaws
+pub mod ChosenLaws
