@@ -6,3 +6,5 @@ pub mod Faithful
 pub mod TestLaws
 pub mod NumberLaws
 pub mod ChosenLaws
+pub mod DeepestLaws
+pub mod FaithfulWalks
