@@ -8,3 +8,8 @@ pub mod NumberLaws
 pub mod ChosenLaws
 pub mod DeepestLaws
 pub mod FaithfulWalks
+pub mod NodeLaws
+pub mod ChainLaws
+pub mod PresentLaws
+pub mod TailLaws
+pub mod PathLaws

@@ -40,7 +40,7 @@ unfoldable pub inChain : ℕ → List ℕ → ℕ → ℕ → ℕ
 inChain zero table one at = 0
 inChain (suc steps) table one at =
     let later = inChain steps table one (nextSibling table at) in
-    cond (eqb at 0) 0 (cond (eqb (letter table at) one) at later)
+    cond (eqb at 0) 0 (cond (eqb one (letter table at)) at later)
 
 -- "a child of that letter", 0 for none
 unfoldable pub child : List ℕ → ℕ → ℕ → ℕ
