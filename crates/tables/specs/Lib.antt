@@ -13,3 +13,9 @@ pub mod ChainLaws
 pub mod PresentLaws
 pub mod TailLaws
 pub mod PathLaws
+pub mod GrownLaws
+pub mod SheetLaws
+pub mod TranslationFaithful
+pub mod Demand3
+pub mod DistinctLaws
+pub mod CountLaws
