@@ -6,3 +6,6 @@ pub mod Groups
 pub mod Shipped
 pub mod Words
 pub mod Samples
+pub mod LettersLaws
+pub mod GroupsLaws
+pub mod WordsLaws

@@ -1,0 +1,69 @@
+-- The class table holds the class of every letter, and no byte outside a to z is a vowel. Assumes nothing.
+use Prim.Native.Nat.{ℕ, zero, suc, _+_, _-_, _≤_, _<_}
+use native.Mathlib.Nat.{le-of-suc-le-suc, not-suc-le-zero}
+use native.Mathlib.Omega.{arith}
+use mathlib.Core.Path.{_≡_, refl, ap, sym, _∙_}
+use mathlib.Core.Bool.{Bool, true, false, _&&_, _||_}
+use mathlib.Core.List.{List, [], _∷_, map}
+use lib.Dec.{eqb}
+use lib.ListN.{getD, List·getD-map}
+use borrow.Author.Tests.{ne-eqb}
+use Rattle.paper.specs.Letters.{letters, among, Class, none, consonant, isConsonant, vowelAfter}
+use Rattle.letters.specs.Scan.{beforeRow, alphabet, classTable}
+
+-- none of a, e, i, o, u, y
+no-vowel :
+    (preceding : Class) (l : ℕ)
+    → (l ≡ 97 → ⊥)
+    → (l ≡ 101 → ⊥)
+    → (l ≡ 105 → ⊥)
+    → (l ≡ 111 → ⊥)
+    → (l ≡ 117 → ⊥)
+    → (l ≡ 121 → ⊥)
+    → vowelAfter preceding l ≡ false
+unfolding vowelAfter among letters
+no-vowel preceding l a e i o u y =
+    simp (ne-eqb l 97 a, ne-eqb l 101 e, ne-eqb l 105 i, ne-eqb l 111 o, ne-eqb l 117 u, ne-eqb l 121 y)
+
+pub below-a : (preceding : Class) (l : ℕ) → l < 97 → vowelAfter preceding l ≡ false
+below-a preceding l h =
+    no-vowel preceding l (λ e. omega arith) (λ e. omega arith) (λ e. omega arith) (λ e. omega arith) (λ e. omega arith)
+    (λ e. omega arith)
+
+pub above-z : (preceding : Class) (l : ℕ) → 122 < l → vowelAfter preceding l ≡ false
+above-z preceding l h =
+    no-vowel preceding l (λ e. omega arith) (λ e. omega arith) (λ e. omega arith) (λ e. omega arith) (λ e. omega arith)
+    (λ e. omega arith)
+
+-- n numbers from a on
+counted : ℕ → ℕ → List ℕ
+counted a zero = []
+counted a (suc n) = a ∷ counted (suc a) n
+
+counted-at : (a n k : ℕ) → k < n → getD (counted a n) k 0 ≡ a + k
+unfolding counted
+counted-at a zero k h = absurd (not-suc-le-zero h)
+counted-at a (suc n) zero h = omega arith
+counted-at a (suc n) (suc k) h = let e = counted-at (suc a) n k (le-of-suc-le-suc h) in omega arith
+
+alphabet-at : (k : ℕ) → k < 26 → getD alphabet k 0 ≡ 97 + k
+unfolding alphabet letters counted
+alphabet-at k h = counted-at 97 26 k h
+
+row-at :
+    (preceding : Class) (l : ℕ)
+    → 97 ≤ l
+    → l ≤ 122
+    → getD (map (vowelAfter preceding) alphabet) (l - 97) false ≡ vowelAfter preceding l
+unfolding vowelAfter among letters
+row-at preceding l low high =
+    let e : getD alphabet (l - 97) 0 ≡ 97 + (l - 97) = alphabet-at (l - 97) (omega arith) in
+    let f : getD alphabet (l - 97) 0 ≡ l = omega arith in
+    List·getD-map (vowelAfter preceding) alphabet (l - 97) 0 ∙ ap (vowelAfter preceding) f
+
+pub in-table :
+    (row l : ℕ) → row < 2 → 97 ≤ l → l ≤ 122 → getD (getD classTable row []) (l - 97) false ≡ vowelAfter (beforeRow row) l
+unfolding classTable
+in-table zero l h low high = row-at none l low high
+in-table (suc zero) l h low high = row-at consonant l low high
+in-table (suc (suc k)) l h low high = absurd (not-suc-le-zero (le-of-suc-le-suc (le-of-suc-le-suc h)))
