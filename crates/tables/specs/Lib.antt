@@ -19,3 +19,4 @@ pub mod TranslationFaithful
 pub mod Demand3
 pub mod DistinctLaws
 pub mod CountLaws
+pub mod WalkSteps
