@@ -20,3 +20,9 @@ pub mod Demand3
 pub mod DistinctLaws
 pub mod CountLaws
 pub mod WalkSteps
+pub mod HangLaws
+pub mod Laying
+pub mod ChainEndLaws
+pub mod SoundLaws
+pub mod LayingLaws
+pub mod PutLaws
