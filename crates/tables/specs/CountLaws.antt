@@ -56,7 +56,7 @@ seen-behind one (first ∷ left) right tail =
     (sym (or-assoc (same tail first) (same tail one) (member tail (left ++ right)))
     ∙ rw (or-comm (same tail first) (same tail one)) (or-assoc (same tail one) (same tail first) (member tail (left ++ right))))
 
-added-last : (nodes new : List Node) (one : Node)
+pub added-last : (nodes new : List Node) (one : Node)
     → added nodes (new ++ one ∷ []) ≡ cond (present one (added nodes new)) (added nodes new) (added nodes new ++ one ∷ [])
 unfolding added
 added-last nodes [] one = refl

@@ -26,3 +26,5 @@ pub mod ChainEndLaws
 pub mod SoundLaws
 pub mod LayingLaws
 pub mod PutLaws
+pub mod EnterLaws
+pub mod NoteLaws
