@@ -1,2 +1,81 @@
 // Rule sheets: the record at a place, the check of a whole sheet, the reader that holds the caller's sheet and its place,
 // and the shipped rules as a sheet.
+ghost use mathlib.Core.Path.{_≡_};
+ghost use mathlib.Core.Bool.{_&&_, _||_};
+ghost use lib.Dec.{eqb, leb};
+ghost use Rattle.sheets.specs.Answers.{checked};
+
+mod nodes;
+mod numbers;
+pub mod reader;
+pub mod records;
+
+use nodes::longest_shared;
+use reader::draw;
+use records::Record;
+
+// What a check answers: the nodes that the sheet's table needs, or the place where its first faulty record starts.
+pub enum Checked {
+    Accepted(usize),
+    Refused(usize),
+}
+
+// A group is the first and runs only if opened, or is the 17th.
+fn misplaced_group(groups: usize, gate: usize) -> bool
+    ensures { λ r. ⌜ r ≡ (eqb groups 0 && eqb gate 1) || leb 16 groups ⌝ }
+{
+    ((groups == 0) & (gate == 1)) | (groups >= 16)
+}
+
+// A rule stands before any group, or is the 129th.
+fn misplaced_rule(groups: usize, rules: usize) -> bool
+    ensures { λ r. ⌜ r ≡ eqb groups 0 || leb 128 rules ⌝ }
+{
+    (groups == 0) | (rules >= 128)
+}
+
+// The check of a whole sheet.
+pub fn check(sheet: &[u8]) -> Checked
+    ensures { λ r. ⌜ r ≡ checked (now (sheet .entry)) ⌝ }
+{
+    let mut at = 0;
+    let mut groups = 0;
+    let mut rules = 0;
+    let mut nodes = 0;
+    let mut first = 0;
+    let mut count = 0;
+    while at < sheet.len() {
+        let found = draw(sheet, at);
+        match found {
+            Record::Group(gate) => {
+                if misplaced_group(groups, gate) {
+                    return Checked::Refused(at);
+                }
+                groups += 1;
+                nodes += 1;
+                at += 6;
+                first = at;
+                count = 0;
+            }
+            Record::Rule {
+                condition: _,
+                action: _,
+                opens: _,
+                ending,
+                replacement,
+            } => {
+                if misplaced_rule(groups, rules) {
+                    return Checked::Refused(at);
+                }
+                let shared = longest_shared(sheet, first, count, at);
+                rules += 1;
+                nodes += ending - shared;
+                at += 8 + ending + replacement;
+                count += 1;
+            }
+            Record::End => return Checked::Accepted(nodes),
+            Record::Faulty => return Checked::Refused(at),
+        }
+    }
+    Checked::Refused(at)
+}

@@ -1,0 +1,274 @@
+-- `sheets::check` meets its contract. The loop's invariant: the place and the counts are within their bounds, and `State`
+-- says what the rest of the sheet decides. The measure is what is left of the sheet. Assumes nothing.
+use Prim.Native.Nat.{ℕ, _+_, _*_, _-_, _≤_, _<_}
+use mathlib.Core.Path.{_≡_, refl, sym, ap, _∙_}
+use mathlib.Core.Bool.{Bool, true, false, _&&_, _||_}
+use mathlib.Core.List.{List}
+use native.Mathlib.Omega.{arith}
+use borrow.Author.Needs.{needs}
+use borrow.Author.Tests.{leb-false}
+use lib.Dec.{eqb, leb}
+use lib.ListN.{length, drop, length-drop}
+use Rattle.sheets.specs.Records.{body, gateNumber, misplacedGroup, misplacedRule}
+use Rattle.sheets.specs.RecordLaws.{GroupHere, RuleHere, EndHere, group-here, rule-here, end-here, fault-here}
+use Rattle.sheets.specs.SheetLaws.{fault-alone, group-fault, rule-fault, faulty-empty}
+use Rattle.sheets.specs.WriteBack.{few-groups, few-rules}
+use Rattle.sheets.specs.CheckLaws.{
+  State,
+  starts,
+  faulty-record,
+  last-record,
+  group-inside,
+  group-next,
+  rule-inside,
+  ending-short,
+  shared-short,
+  rule-next,
+}
+use Rattle.sheets.proofs.check.Statement.{statement}
+use Rattle.sheets.proofs.check.Tie as tie
+
+abbrev Inv-loop : tie.InvT-loop
+Inv-loop sheet at₀ groups₀ rules₀ nodes₀ first₀ count₀ at groups rules nodes first count =
+    (at ≤ length sheet)
+    × (groups ≤ 16)
+    × (rules ≤ 128)
+    × (nodes ≤ groups + 12 * rules)
+    × (count ≤ rules)
+    × State sheet at groups rules nodes first count
+
+abbrev μ-loop : tie.MeasureT-loop
+μ-loop sheet at₀ groups₀ rules₀ nodes₀ first₀ count₀ at groups rules nodes first count = length sheet - at
+
+loop-holds : tie.Need-loop-holds Inv-loop μ-loop
+loop-holds c = (omega arith, omega arith, omega arith, omega arith, omega arith, starts (c .before .args .sheet .now))
+
+draw-requires : tie.Need-draw-requires Inv-loop μ-loop
+draw-requires c κs = tt
+
+enum-known-found : tie.Need-enum-known-found Inv-loop μ-loop
+enum-known-found c = search needs
+
+misplaced-group-requires : tie.Need-misplaced-group-requires Inv-loop μ-loop
+misplaced-group-requires c κs = tt
+
+-- the group that was found, and whether it is in its place
+group-of : (c : tie.After-misplaced-group Inv-loop μ-loop)
+    → GroupHere (drop (c .before .before .before .before .before .before .loop .at) (c .before .before .before .before .before .before .before .before .args .sheet .now)) (c .before .before .found .given .0 .0)
+group-of c = group-here _ _ (sym (c .before .before .before .before .draw .ensures) ∙ c .before .before .found .given .1)
+
+group-judged : (groups number : ℕ) (bytes : List ℕ) → number ≡ gateNumber bytes
+    → (eqb groups 0 && eqb number 1) || leb 16 groups ≡ misplacedGroup groups bytes
+unfolding misplacedGroup
+group-judged groups number bytes is = rw is
+
+group-test : (c : tie.After-misplaced-group Inv-loop μ-loop)
+    → c .misplaced-group .result ≡ misplacedGroup (c .before .before .before .before .before .before .loop .groups) (body (drop (c .before .before .before .before .before .before .loop .at) (c .before .before .before .before .before .before .before .before .args .sheet .now)))
+group-test c = c .misplaced-group .ensures ∙ group-judged _ _ _ (group-of c .gate-is)
+
+returns : tie.Need-returns Inv-loop μ-loop
+returns c =
+    let sheet = c .before .before .before .before .before .before .before .before .before .args .sheet .now in
+    let turn = c .before .before .before .before .before .before .before .loop in
+    let here = group-of (c .before) in
+    faulty-record sheet (turn .at) (turn .groups) (turn .rules) (turn .nodes) (turn .first) (turn .count) (turn .inv .5)
+    (group-fault (turn .groups) (turn .rules) (drop (turn .at) sheet) (here .whole) (here .is-group) (here .sound)
+    ∙ (sym (group-test (c .before)) ∙ c .if1 .taken))
+
+add-groups : tie.Need-add-groups Inv-loop μ-loop
+add-groups c = let within = c .before .before .before .before .before .before .before .loop .inv .1 in omega arith
+
+add-nodes : tie.Need-add-nodes Inv-loop μ-loop
+add-nodes c = let turn = c .before .before .before .before .before .before .before .loop in omega (arith, turn .inv .1, turn .inv .2, turn .inv .3)
+
+add-at : tie.Need-add-at Inv-loop μ-loop
+add-at c =
+    let sheet = c .before .before .before .before .before .before .before .before .before .args .sheet .now in
+    let turn = c .before .before .before .before .before .before .before .loop in
+    let here = group-of (c .before) in
+    let inside = group-inside sheet (turn .at) (turn .groups) (turn .rules) (turn .nodes) (turn .first) (turn .count) (turn .inv .5) _ here in
+    omega arith
+
+loop-less : tie.Need-loop-less Inv-loop μ-loop
+loop-less c =
+    let sheet = c .before .before .before .before .before .before .before .before .before .args .sheet .now in
+    let turn = c .before .before .before .before .before .before .before .loop in
+    let here = group-of (c .before) in
+    let inside = group-inside sheet (turn .at) (turn .groups) (turn .rules) (turn .nodes) (turn .first) (turn .count) (turn .inv .5) _ here in
+    omega arith
+
+loop-again : tie.Need-loop-again Inv-loop μ-loop
+loop-again c =
+    let sheet = c .before .before .before .before .before .before .before .before .before .args .sheet .now in
+    let turn = c .before .before .before .before .before .before .before .loop in
+    let here = group-of (c .before) in
+    let inside = group-inside sheet (turn .at) (turn .groups) (turn .rules) (turn .nodes) (turn .first) (turn .count) (turn .inv .5) _ here in
+    let placed = sym (group-test (c .before)) ∙ c .if1 .left in
+    let few = few-groups (turn .groups) (body (drop (turn .at) sheet)) placed in (
+      inside,
+      omega arith,
+      turn .inv .2,
+      omega (arith, turn .inv .3),
+      omega arith,
+      group-next sheet (turn .at) (turn .groups) (turn .rules) (turn .nodes) (turn .first) (turn .count) (turn .inv .5) _ here placed,
+    )
+
+enum-known-found-2 : tie.Need-enum-known-found-2 Inv-loop μ-loop
+enum-known-found-2 c = search needs
+
+misplaced-rule-requires : tie.Need-misplaced-rule-requires Inv-loop μ-loop
+misplaced-rule-requires c κs = tt
+
+-- the rule that was found, and whether it is in its place
+rule-of : (c : tie.After-misplaced-rule Inv-loop μ-loop)
+    → RuleHere (drop (c .before .before .before .before .before .before .loop .at) (c .before .before .before .before .before .before .before .before .args .sheet .now)) (c .before .before .found2 .given .0 .1 .1 .1 .0) (c .before .before .found2 .given .0 .1 .1 .1 .1 .0)
+rule-of c = rule-here _ _ _ _ _ _ (sym (c .before .before .before .before .draw .ensures) ∙ c .before .before .found2 .given .1)
+
+rule-test : (c : tie.After-misplaced-rule Inv-loop μ-loop)
+    → c .misplaced-rule .result ≡ misplacedRule (c .before .before .before .before .before .before .loop .groups) (c .before .before .before .before .before .before .loop .rules)
+unfolding misplacedRule
+rule-test c = c .misplaced-rule .ensures
+
+returns-2 : tie.Need-returns-2 Inv-loop μ-loop
+returns-2 c =
+    let sheet = c .before .before .before .before .before .before .before .before .before .args .sheet .now in
+    let turn = c .before .before .before .before .before .before .before .loop in
+    let here = rule-of (c .before) in
+    faulty-record sheet (turn .at) (turn .groups) (turn .rules) (turn .nodes) (turn .first) (turn .count) (turn .inv .5)
+    (rule-fault (turn .groups) (turn .rules) (drop (turn .at) sheet) (here .whole) (here .is-rule) (here .sound)
+    ∙ (sym (rule-test (c .before)) ∙ c .if2 .taken))
+
+longest-shared-requires : tie.Need-longest-shared-requires Inv-loop μ-loop
+longest-shared-requires c κs = tt
+
+add-rules : tie.Need-add-rules Inv-loop μ-loop
+add-rules c = let few = c .before .before .before .before .before .before .before .before .loop .inv .2 in omega arith
+
+sub-nodes : tie.Need-sub-nodes Inv-loop μ-loop
+sub-nodes c =
+    let sheet = c .before .before .before .before .before .before .before .before .before .before .args .sheet .now in
+    let turn = c .before .before .before .before .before .before .before .before .loop in
+    let here = rule-of (c .before .before) in
+    shared-short sheet (turn .at) (turn .groups) (turn .rules) (turn .nodes) (turn .first) (turn .count) (turn .inv .5) _ _ here (c .longest-shared .result) (c .longest-shared .ensures)
+
+add-nodes-2 : tie.Need-add-nodes-2 Inv-loop μ-loop
+add-nodes-2 c =
+    let sheet = c .before .before .before .before .before .before .before .before .before .before .args .sheet .now in
+    let turn = c .before .before .before .before .before .before .before .before .loop in
+    let here = rule-of (c .before .before) in
+    omega (arith, turn .inv .1, turn .inv .2, turn .inv .3, ending-short sheet (turn .at) (turn .groups) (turn .rules) (turn .nodes) (turn .first) (turn .count) (turn .inv .5) _ _ here)
+
+add-at-2 : tie.Need-add-at-2 Inv-loop μ-loop
+add-at-2 c =
+    let sheet = c .before .before .before .before .before .before .before .before .before .before .args .sheet .now in
+    let turn = c .before .before .before .before .before .before .before .before .loop in
+    let here = rule-of (c .before .before) in
+    let inside = rule-inside sheet (turn .at) (turn .groups) (turn .rules) (turn .nodes) (turn .first) (turn .count) (turn .inv .5) _ _ here in
+    omega arith
+
+add-at-3 : tie.Need-add-at-3 Inv-loop μ-loop
+add-at-3 c =
+    let sheet = c .before .before .before .before .before .before .before .before .before .before .args .sheet .now in
+    let turn = c .before .before .before .before .before .before .before .before .loop in
+    let here = rule-of (c .before .before) in
+    let inside = rule-inside sheet (turn .at) (turn .groups) (turn .rules) (turn .nodes) (turn .first) (turn .count) (turn .inv .5) _ _ here in
+    omega arith
+
+add-at-4 : tie.Need-add-at-4 Inv-loop μ-loop
+add-at-4 c =
+    let sheet = c .before .before .before .before .before .before .before .before .before .before .args .sheet .now in
+    let turn = c .before .before .before .before .before .before .before .before .loop in
+    let here = rule-of (c .before .before) in
+    let inside = rule-inside sheet (turn .at) (turn .groups) (turn .rules) (turn .nodes) (turn .first) (turn .count) (turn .inv .5) _ _ here in
+    omega arith
+
+add-count : tie.Need-add-count Inv-loop μ-loop
+add-count c = let turn = c .before .before .before .before .before .before .before .before .loop in omega (arith, turn .inv .2, turn .inv .4)
+
+loop-less-2 : tie.Need-loop-less-2 Inv-loop μ-loop
+loop-less-2 c =
+    let sheet = c .before .before .before .before .before .before .before .before .before .before .args .sheet .now in
+    let turn = c .before .before .before .before .before .before .before .before .loop in
+    let here = rule-of (c .before .before) in
+    let inside = rule-inside sheet (turn .at) (turn .groups) (turn .rules) (turn .nodes) (turn .first) (turn .count) (turn .inv .5) _ _ here in
+    omega arith
+
+loop-again-2 : tie.Need-loop-again-2 Inv-loop μ-loop
+loop-again-2 c =
+    let sheet = c .before .before .before .before .before .before .before .before .before .before .args .sheet .now in
+    let turn = c .before .before .before .before .before .before .before .before .loop in
+    let here = rule-of (c .before .before) in
+    let inside = rule-inside sheet (turn .at) (turn .groups) (turn .rules) (turn .nodes) (turn .first) (turn .count) (turn .inv .5) _ _ here in
+    let short = ending-short sheet (turn .at) (turn .groups) (turn .rules) (turn .nodes) (turn .first) (turn .count) (turn .inv .5) _ _ here in
+    let placed = sym (rule-test (c .before .before)) ∙ c .before .if2 .left in
+    let few = few-rules (turn .groups) (turn .rules) placed in (
+      inside,
+      turn .inv .1,
+      omega arith,
+      omega (arith, turn .inv .3),
+      omega (arith, turn .inv .4),
+      rule-next sheet (turn .at) (turn .groups) (turn .rules) (turn .nodes) (turn .first) (turn .count) (turn .inv .5) _ _ here (c .longest-shared .result) (c .longest-shared .ensures) placed,
+    )
+
+enum-told : tie.Need-enum-told Inv-loop μ-loop
+enum-told c = search needs
+
+returns-3 : tie.Need-returns-3 Inv-loop μ-loop
+returns-3 c =
+    let sheet = c .before .before .before .before .before .before .args .sheet .now in
+    let turn = c .before .before .before .before .loop in
+    last-record sheet (turn .at) (turn .groups) (turn .rules) (turn .nodes) (turn .first) (turn .count) (turn .inv .5)
+    (end-here (drop (turn .at) sheet) (sym (c .before .before .draw .ensures) ∙ c .enum-told .given .1))
+
+enum-told-2 : tie.Need-enum-told-2 Inv-loop μ-loop
+enum-told-2 c = search needs
+
+returns-4 : tie.Need-returns-4 Inv-loop μ-loop
+returns-4 c =
+    let sheet = c .before .before .before .before .before .before .args .sheet .now in
+    let turn = c .before .before .before .before .loop in
+    faulty-record sheet (turn .at) (turn .groups) (turn .rules) (turn .nodes) (turn .first) (turn .count) (turn .inv .5)
+    (fault-alone (turn .groups) (turn .rules) (drop (turn .at) sheet)
+    (fault-here (drop (turn .at) sheet) (sym (c .before .before .draw .ensures) ∙ c .enum-told2 .given .1)))
+
+returns-5 : tie.Need-returns-5 Inv-loop μ-loop
+returns-5 c =
+    let sheet = c .before .before .before .args .sheet .now in
+    let turn = c .before .loop in
+    faulty-record sheet (turn .at) (turn .groups) (turn .rules) (turn .nodes) (turn .first) (turn .count) (turn .inv .5)
+    (faulty-empty (turn .groups) (turn .rules) (drop (turn .at) sheet) (omega (arith, length-drop (turn .at) sheet, c .loop-test .left)))
+
+pub check-spec : {M : Type 1} → statement M
+check-spec =
+    tie.close
+    (tie.spec
+    Inv-loop
+    μ-loop
+    loop-holds
+    draw-requires
+    enum-known-found
+    misplaced-group-requires
+    returns
+    add-groups
+    add-nodes
+    add-at
+    loop-less
+    loop-again
+    enum-known-found-2
+    misplaced-rule-requires
+    returns-2
+    longest-shared-requires
+    add-rules
+    sub-nodes
+    add-nodes-2
+    add-at-2
+    add-at-3
+    add-at-4
+    add-count
+    loop-less-2
+    loop-again-2
+    enum-told
+    returns-3
+    enum-told-2
+    returns-4
+    returns-5)

@@ -1,0 +1,264 @@
+-- The check of a sheet, record by record: what is known where a record starts, and how one record carries it on.
+-- Assumes nothing.
+use Prim.Native.Nat.{ℕ, zero, suc, _+_, _*_, _-_, _≤_, _<_}
+use mathlib.Core.Path.{_≡_, refl, sym, ap, _∙_}
+use mathlib.Core.Bool.{Bool, true, false}
+use mathlib.Core.List.{List, [], _∷_, _++_, append-assoc}
+use native.Mathlib.Numerals.{add-one}
+use native.Mathlib.Omega.{arith}
+use lib.ListN.{length, drop, length-append, length-drop}
+use lib.Seq.{drop-drop}
+use Rattle.paper.specs.Groups.{Rule, Gate, Group}
+use Rattle.sheets.specs.Records.{
+  bodyLength,
+  kind,
+  body,
+  after,
+  gate,
+  rule,
+  ending,
+  replacement,
+  endingLength,
+  cut,
+  faultyGroup,
+  misplacedGroup,
+  faultyRule,
+  misplacedRule,
+  faultyAlone,
+  faulty,
+}
+use Rattle.sheets.specs.Sheets.{
+  Rest,
+  faulty-at,
+  holding,
+  ruleThen,
+  groupThen,
+  readRest,
+  Sheet,
+  whole,
+  readSheet,
+}
+use Rattle.sheets.specs.Nodes.{tails, tailsOf, distinct, nodeCount}
+use Rattle.sheets.specs.Bytes.{recordOf, ruleBody, rulesBytes}
+use Rattle.sheets.specs.Answers.{answer, checked}
+use Rattle.sheets.specs.Earlier.{endingIn, tailsIn, ending-in, tails-in}
+use Rattle.sheets.specs.LookBack.{shared, shared-at-most, look-back}
+use Rattle.sheets.specs.ByteLaws.{long, fitting, length-body, length-after}
+use Rattle.sheets.specs.RecordLaws.{GroupHere, RuleHere, EndHere}
+use Rattle.sheets.specs.RuleLaws.{Sound, sound, length-ending, length-replacement, group-length}
+use Rattle.sheets.specs.SheetLaws.{fault-step, group-step, rule-step, end-step, enough}
+use Rattle.sheets.specs.WriteBack.{Written, WrittenAs, not-read, is-read, rest-written, rule-record}
+use Rattle.sheets.specs.declared.Checked.{Checked}
+use Rattle.sheets.specs.declared.Checked.the-variants.{Accepted, Refused}
+
+-- the answer, once the rest is read: so many nodes are counted, and these rules of the group came before
+abbrev pub finished : ℕ → List Rule → Rest → Checked
+finished nodes earlier (faulty-at place) = Refused place
+finished nodes earlier (holding rules groups) = Accepted (nodes + (distinct (tailsOf earlier) (tailsOf rules) + nodeCount groups))
+
+after-group : (nodes : ℕ) (earlier : List Rule) (one : Gate) (rest : Rest)
+    → finished nodes earlier (groupThen one rest) ≡ finished (nodes + 1) [] rest
+unfolding nodeCount tailsOf distinct
+after-group nodes earlier one (faulty-at place) = refl
+after-group nodes earlier one (holding rules groups) = ap Accepted (omega arith)
+
+after-rule : (nodes : ℕ) (earlier : List Rule) (one : Rule) (rest : Rest)
+    → finished nodes earlier (ruleThen one rest)
+    ≡ finished (nodes + (length (one .ending) - shared (one .ending) (tailsOf earlier))) (earlier ++ (one ∷ [])) rest
+unfolding tailsOf
+after-rule nodes earlier one (faulty-at place) = refl
+after-rule nodes earlier one (holding rules groups) =
+    let law = look-back earlier one (tailsOf rules) in
+    ap Accepted (omega arith)
+
+-- what is known where a record starts: the rules of the group so far stand from `first` on, and the rest decides the answer
+pub record State (sheet : List ℕ) (at groups rules nodes first count : ℕ) : Type 0 where
+  pub earlier : List Rule
+  pub counted : count ≡ length earlier
+  pub stand : drop first sheet ≡ rulesBytes earlier ++ drop at sheet
+  pub decides : checked sheet ≡ finished nodes earlier (readRest (length (drop at sheet)) groups rules at (drop at sheet))
+
+one-more : (earlier : List Rule) (one : Rule) (l : List ℕ)
+    → rulesBytes earlier ++ (recordOf 2 (ruleBody one) ++ l) ≡ rulesBytes (earlier ++ (one ∷ [])) ++ l
+unfolding rulesBytes
+one-more [] one l = simp append-assoc
+one-more (other ∷ earlier) one l =
+    append-assoc (recordOf 2 (ruleBody other)) (rulesBytes earlier) (recordOf 2 (ruleBody one) ++ l)
+    ∙ (ap (λ (k : List ℕ). recordOf 2 (ruleBody other) ++ k) (one-more earlier one l)
+    ∙ sym (append-assoc (recordOf 2 (ruleBody other)) (rulesBytes (earlier ++ (one ∷ []))) l))
+
+-- ## The start
+no-rules : (list : List Rule) → length list ≡ 0 → list ≡ []
+no-rules [] none = refl
+no-rules (one ∷ list) none = absurd (omega arith)
+
+from-start : {found : Rest} (sheet : List ℕ) → WrittenAs 0 0 sheet found → answer (whole found) ≡ finished 0 [] found
+unfolding tailsOf distinct
+from-start sheet (not-read place) = refl
+from-start sheet (is-read list groups w) = rw (no-rules list (w .no-rule-first refl)) (ap Accepted (omega arith))
+
+pub starts : (sheet : List ℕ) → State sheet 0 0 0 0 0 0
+unfolding checked readSheet rulesBytes
+starts sheet =
+    record {
+      earlier = [];
+      counted = refl;
+      stand = refl;
+      decides = from-start sheet (rest-written (length sheet) 0 0 0 sheet (omega arith) (omega arith));
+    }
+
+-- ## One record
+module _ (sheet : List ℕ) (at groups rules nodes first count : ℕ) (state : State sheet at groups rules nodes first count) where
+  abbrev rest : List ℕ
+  rest = drop at sheet
+
+  -- reading by any number that is enough
+  abbrev Decides : ℕ → Type 0
+  Decides more = checked sheet ≡ finished nodes (state .earlier) (readRest more groups rules at rest)
+
+  by-enough : (more : ℕ) → length rest ≤ more → Decides more
+  by-enough more long-enough =
+      state .decides
+      ∙ ap (finished nodes (state .earlier)) (enough (length rest) more groups rules at rest (omega arith) long-enough)
+
+  -- reading takes one record
+  one-record : Decides (suc (length rest))
+  one-record = by-enough (suc (length rest)) (omega arith)
+
+  pub faulty-record : faulty groups rules rest ≡ true → Refused at ≡ checked sheet
+  faulty-record is =
+      sym (one-record ∙ ap (finished nodes (state .earlier)) (fault-step (length rest) groups rules at rest is))
+
+  pub last-record : EndHere rest → Accepted nodes ≡ checked sheet
+  unfolding distinct tailsOf nodeCount
+  last-record here =
+      sym
+      (one-record
+      ∙ (ap (finished nodes (state .earlier)) (end-step (length rest) groups rules at rest (here .whole) (here .is-end) (here .last))
+      ∙ ap Accepted (omega arith)))
+
+  -- the place after a record
+  beyond : (next : ℕ) → next ≡ at + (4 + bodyLength rest) → after rest ≡ drop next sheet
+  unfolding after
+  beyond next is = drop-drop (4 + bodyLength rest) at sheet ∙ ap (λ (k : ℕ). drop k sheet) (sym is)
+
+  -- what is left after a record, as it is read
+  left : (more groups′ rules′ next : ℕ) → next ≡ at + (4 + bodyLength rest) → length rest ≤ more
+      → readRest more groups′ rules′ (at + (4 + bodyLength rest)) (after rest)
+      ≡ readRest (length (drop next sheet)) groups′ rules′ next (drop next sheet)
+  left more groups′ rules′ next is long-enough =
+      let short = length-after rest in
+      enough more (length (after rest)) groups′ rules′ (at + (4 + bodyLength rest)) (after rest) (omega arith) (omega arith)
+      ∙ rw (beyond next is, is) refl
+
+  pub group-size : (number : ℕ) → GroupHere rest number → bodyLength rest ≡ 2
+  group-size number here = sym (length-body rest (here .whole)) ∙ group-length (body rest) (here .sound)
+
+  pub rule-size : (s1 s2 : ℕ) → RuleHere rest s1 s2 → bodyLength rest ≡ 4 + (s1 + s2)
+  rule-size s1 s2 here =
+      let is = sound (body rest) (here .sound) in
+      let a = length-body rest (here .whole) in
+      let b = length-ending (body rest) is in
+      let c = length-replacement (body rest) in
+      let d = here .ending-is in
+      let e = here .replacement-is in
+      let f = is .within in
+      omega arith
+
+  -- a record stands within the sheet
+  inside : cut rest ≡ false → at + (4 + bodyLength rest) ≤ length sheet
+  inside whole-record =
+      let a = long rest whole-record in
+      let b = fitting rest whole-record in
+      let c = length-drop at sheet in
+      omega arith
+
+  pub group-inside : (number : ℕ) → GroupHere rest number → at + 6 ≤ length sheet
+  group-inside number here = omega (arith, inside (here .whole), group-size number here)
+
+  pub rule-inside : (s1 s2 : ℕ) → RuleHere rest s1 s2 → at + (8 + s1 + s2) ≤ length sheet
+  rule-inside s1 s2 here = omega (arith, inside (here .whole), rule-size s1 s2 here)
+
+  pub ending-short : (s1 s2 : ℕ) → RuleHere rest s1 s2 → s1 ≤ 12
+  ending-short s1 s2 here =
+      let is = sound (body rest) (here .sound) in
+      omega (arith, length-ending (body rest) is, is .short-ending, here .ending-is)
+
+  -- a group's record, in its place
+  pub group-next : (number : ℕ) → GroupHere rest number → misplacedGroup groups (body rest) ≡ false
+      → State sheet (at + 6) (groups + 1) rules (nodes + 1) (at + 6) 0
+  unfolding rulesBytes
+  group-next number here placed =
+      let size = group-size number here in
+      record {
+        earlier = [];
+        counted = refl;
+        stand = refl;
+        decides =
+            one-record
+            ∙ (ap (finished nodes (state .earlier))
+            (group-step (length rest) groups rules at rest (here .whole) (here .is-group) (here .sound) placed)
+            ∙ (after-group nodes (state .earlier) (gate (body rest))
+            (readRest (length rest) (suc groups) rules (at + (4 + bodyLength rest)) (after rest))
+            ∙ (ap (finished (nodes + 1) []) (left (length rest) (suc groups) rules (at + 6) (omega arith) (omega arith))
+            ∙ rw (add-one groups) refl)));
+      }
+
+  -- a rule's record, in its place
+  module _ (s1 s2 : ℕ) (here : RuleHere rest s1 s2) where
+    abbrev one : Rule
+    one = rule (body rest)
+
+    bytes-here : rest ≡ recordOf 2 (ruleBody one) ++ after rest
+    bytes-here = rule-record rest (here .whole) (here .is-rule) (here .sound)
+
+    ending-here : endingIn rest ≡ one .ending
+    ending-here = ap endingIn bytes-here ∙ ending-in one (after rest)
+
+    tails-here : tailsIn count (drop first sheet) ≡ tailsOf (state .earlier)
+    tails-here = rw (state .counted, state .stand) (tails-in (state .earlier) rest)
+
+    pub shared-here : shared (endingIn rest) (tailsIn count (drop first sheet)) ≡ shared (one .ending) (tailsOf (state .earlier))
+    shared-here = rw (ending-here, tails-here)
+
+    pub shared-short : (longest : ℕ) → longest ≡ shared (endingIn rest) (tailsIn count (drop first sheet)) → longest ≤ s1
+    unfolding rule
+    shared-short longest longest-is =
+        let a = here .ending-is in
+        let b = longest-is ∙ shared-here in
+        omega (arith, shared-at-most (one .ending) (tailsOf (state .earlier)))
+
+    new-nodes : (longest : ℕ) → longest ≡ shared (endingIn rest) (tailsIn count (drop first sheet))
+        → length (one .ending) - shared (one .ending) (tailsOf (state .earlier)) ≡ s1 - longest
+    unfolding rule
+    new-nodes longest longest-is =
+        let a = here .ending-is in
+        let b = longest-is ∙ shared-here in
+        omega arith
+
+    pub rule-next : (longest : ℕ) → longest ≡ shared (endingIn rest) (tailsIn count (drop first sheet))
+        → misplacedRule groups rules ≡ false
+        → State sheet (at + (8 + s1 + s2)) groups (rules + 1) (nodes + (s1 - longest)) first (count + 1)
+    rule-next longest longest-is placed =
+        let size = rule-size s1 s2 here in
+        let next = at + (8 + s1 + s2) in
+        let next-is : next ≡ at + (4 + bodyLength rest) = omega arith in
+        let earlier = state .earlier ++ (one ∷ []) in
+        let found = readRest (length rest) groups (suc rules) (at + (4 + bodyLength rest)) (after rest) in
+        record {
+          earlier = earlier;
+          counted = omega (arith, state .counted, length-append (state .earlier) (one ∷ []));
+          stand =
+              state .stand
+              ∙ (ap (λ (l : List ℕ). rulesBytes (state .earlier) ++ l)
+              (bytes-here ∙ ap (λ (l : List ℕ). recordOf 2 (ruleBody one) ++ l) (beyond next next-is))
+              ∙ one-more (state .earlier) one (drop next sheet));
+          decides =
+              one-record
+              ∙ (ap (finished nodes (state .earlier))
+              (rule-step (length rest) groups rules at rest (here .whole) (here .is-rule) (here .sound) placed)
+              ∙ (after-rule nodes (state .earlier) one found
+              ∙ (ap (λ (n : ℕ). finished (nodes + n) earlier found) (new-nodes longest longest-is)
+              ∙ (ap (finished (nodes + (s1 - longest)) earlier) (left (length rest) groups (suc rules) next next-is (omega arith))
+              ∙ rw (add-one rules) refl))));
+        }

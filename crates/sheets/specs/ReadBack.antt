@@ -1,0 +1,170 @@
+-- Reading the bytes of a bounded list of groups gives that list. Assumes nothing.
+use Prim.Native.Nat.{ℕ, zero, suc, _+_, _-_, _≤_, _<_}
+use mathlib.Core.Path.{_≡_, refl, sym, ap, _∙_}
+use mathlib.Core.Bool.{Bool, true, false, not, cond, _&&_, _||_}
+use mathlib.Core.List.{List, [], _∷_, _++_, append-assoc}
+use native.Mathlib.Omega.{arith}
+use lib.Dec.{eqb, leb, eqb·suc-zero}
+use lib.ListN.{length, length-append}
+use borrow.Author.Tests.{leb-true, lt-leb, eqb-true}
+use Rattle.paper.specs.Groups.{Rule, Gate, always, if-opened, Group}
+use Rattle.sheets.specs.Records.{gateNumber, misplacedGroup, misplacedRule}
+use Rattle.sheets.specs.Sheets.{Rest, holding, ruleThen, groupThen, readRest, accepted, whole, readSheet}
+use Rattle.sheets.specs.Bytes.{
+  two,
+  recordOf,
+  numberOfGate,
+  gateBody,
+  ruleBody,
+  rulesBytes,
+  groupsBytes,
+  sheetOf,
+  allowed,
+  allAllowed,
+  groupsAllowed,
+  ruleCount,
+  firstAlways,
+  bounded,
+}
+use Rattle.sheets.specs.Tests.{both-left, both-right}
+use Rattle.sheets.specs.ByteLaws.{size-read, kind-read, body-read, after-read, length-read, whole-read}
+use Rattle.sheets.specs.RuleLaws.{gate-read, gate-number, gate-sound}
+use Rattle.sheets.specs.WrittenRules.{rule-read, rule-sound}
+use Rattle.sheets.specs.SheetLaws.{group-step, rule-step, end-step}
+
+-- the rest of a sheet that holds these rules, and then these groups
+unfoldable pub written : List Rule → List Group → List ℕ
+written rules groups = rulesBytes rules ++ (groupsBytes groups ++ recordOf 3 [])
+
+misplaced-not : (groups : ℕ) (one : Gate) → groups < 16 → (groups ≡ 0 → numberOfGate one ≡ 0)
+    → misplacedGroup groups (gateBody one) ≡ false
+unfolding misplacedGroup
+misplaced-not zero one few first = rw (gate-number one, first refl) refl
+misplaced-not (suc groups) one few first = simp (eqb·suc-zero groups, lt-leb 16 (suc groups) few)
+
+rule-placed : (groups rules : ℕ) → 0 < groups → rules < 128 → misplacedRule groups rules ≡ false
+unfolding misplacedRule
+rule-placed zero rules some few = absurd (omega arith)
+rule-placed (suc groups) rules some few = simp (eqb·suc-zero groups, lt-leb 128 rules few)
+
+-- a rule's record at the start of the rest
+read-rule : (more groups rules place : ℕ) (one : Rule) (rest : List ℕ) → allowed one ≡ true → 0 < groups → rules < 128
+    → readRest (suc more) groups rules place (recordOf 2 (ruleBody one) ++ rest)
+    ≡ ruleThen one (readRest more groups (suc rules) (place + (4 + length (ruleBody one))) rest)
+read-rule more groups rules place one rest all some few =
+    rw (
+      rule-step more groups rules place (recordOf 2 (ruleBody one) ++ rest) (whole-read 2 (ruleBody one) rest)
+          (kind-read 2 (ruleBody one) rest) (rw (body-read 2 (ruleBody one) rest) (rule-sound one all))
+          (rule-placed groups rules some few),
+      body-read 2 (ruleBody one) rest,
+      after-read 2 (ruleBody one) rest,
+      size-read 2 (ruleBody one) rest,
+      rule-read one,
+    )
+    refl
+
+-- a group's record at the start of the rest
+read-group : (more groups rules place : ℕ) (one : Gate) (rest : List ℕ) → groups < 16 → (groups ≡ 0 → numberOfGate one ≡ 0)
+    → readRest (suc more) groups rules place (recordOf 1 (gateBody one) ++ rest)
+    ≡ groupThen one (readRest more (suc groups) rules (place + (4 + length (gateBody one))) rest)
+read-group more groups rules place one rest few first =
+    rw (
+      group-step more groups rules place (recordOf 1 (gateBody one) ++ rest) (whole-read 1 (gateBody one) rest)
+          (kind-read 1 (gateBody one) rest) (rw (body-read 1 (gateBody one) rest) (gate-sound one))
+          (rw (body-read 1 (gateBody one) rest) (misplaced-not groups one few first)),
+      body-read 1 (gateBody one) rest,
+      after-read 1 (gateBody one) rest,
+      size-read 1 (gateBody one) rest,
+      gate-read one,
+    )
+    refl
+
+-- groups from here on are read
+abbrev Reads : List Group → Type 0
+Reads groups =
+    (more before rules place : ℕ)
+    → before + length groups ≤ 16
+    → rules + ruleCount groups ≤ 128
+    → groupsAllowed groups ≡ true
+    → (before ≡ 0 → firstAlways groups ≡ true)
+    → length (groupsBytes groups ++ recordOf 3 []) ≤ more
+    → readRest more before rules place (groupsBytes groups ++ recordOf 3 []) ≡ holding [] groups
+
+positive : (n : ℕ) → 0 < n → n ≡ 0 → ⊥
+positive n some is = omega arith
+
+rules-first : (groups : List Group) → Reads groups → (list : List Rule) (more before rules place : ℕ) → 0 < before
+    → before + length groups ≤ 16 → rules + (length list + ruleCount groups) ≤ 128 → allAllowed list ≡ true
+    → groupsAllowed groups ≡ true → length (written list groups) ≤ more
+    → readRest more before rules place (written list groups) ≡ holding list groups
+unfolding written rulesBytes allAllowed
+rules-first groups read [] more before rules place some few fewer all each enough =
+    read more before rules place few (omega arith) each (λ none. absurd (positive before some none)) enough
+rules-first groups read (one ∷ list) zero before rules place some few fewer all each enough =
+    let size = length-read 2 (ruleBody one) (written list groups) in
+    absurd (omega (arith, ap length (append-assoc (recordOf 2 (ruleBody one)) (rulesBytes list) (groupsBytes groups ++ recordOf 3 []))))
+rules-first groups read (one ∷ list) (suc more) before rules place some few fewer all each enough =
+    let size = length-read 2 (ruleBody one) (written list groups) in
+    let joined = append-assoc (recordOf 2 (ruleBody one)) (rulesBytes list) (groupsBytes groups ++ recordOf 3 []) in
+    let long = ap length joined in
+    rw (
+      joined,
+      read-rule more before rules place one (written list groups) (both-left (allowed one) (allAllowed list) all) some
+          (omega arith),
+      rules-first groups read list more before (suc rules) (place + (4 + length (ruleBody one))) some few (omega arith)
+          (both-right (allowed one) (allAllowed list) all)
+          each
+          (omega arith),
+    )
+    refl
+
+group-bytes : (one : Group) (groups : List Group)
+    → groupsBytes (one ∷ groups) ++ recordOf 3 [] ≡ recordOf 1 (gateBody (one .gate)) ++ written (one .rules) groups
+unfolding groupsBytes written
+group-bytes one groups = simp append-assoc
+
+end-bytes : (more groups rules place : ℕ) → readRest (suc more) groups rules place (recordOf 3 []) ≡ holding [] []
+unfolding recordOf two
+end-bytes more groups rules place =
+    end-step more groups rules place (recordOf 3 []) (whole-read 3 [] []) (kind-read 3 [] []) refl
+
+groups-read : (groups : List Group) → Reads groups
+unfolding groupsBytes groupsAllowed ruleCount recordOf two
+groups-read [] zero before rules place few fewer each first enough = absurd (omega arith)
+groups-read [] (suc more) before rules place few fewer each first enough = end-bytes more before rules place
+groups-read (one ∷ groups) zero before rules place few fewer each first enough =
+    let size = length-read 1 (gateBody (one .gate)) (written (one .rules) groups) in
+    absurd (omega (arith, ap length (group-bytes one groups)))
+groups-read (one ∷ groups) (suc more) before rules place few fewer each first enough =
+    let size = length-read 1 (gateBody (one .gate)) (written (one .rules) groups) in
+    let long = ap length (group-bytes one groups) in
+    rw (
+      group-bytes one groups,
+      read-group more before rules place (one .gate) (written (one .rules) groups) (omega arith)
+          (λ none. eqb-true (numberOfGate (one .gate)) 0 (first none)),
+      rules-first groups (groups-read groups) (one .rules) more (suc before) rules (place + (4 + length (gateBody (one .gate))))
+          (omega arith)
+          (omega arith)
+          (omega arith)
+          (both-left (allAllowed (one .rules)) (groupsAllowed groups) each)
+          (both-right (allAllowed (one .rules)) (groupsAllowed groups) each)
+          (omega arith),
+    )
+    refl
+
+pub read-back : (groups : List Group) → bounded groups ≡ true → readSheet (sheetOf groups) ≡ accepted groups
+unfolding bounded readSheet sheetOf
+read-back groups all =
+    let few = leb (length groups) 16 in
+    let first = firstAlways groups in
+    let fewer = leb (ruleCount groups) 128 in
+    let each = groupsAllowed groups in
+    let three = both-left (few && first && fewer) each all in
+    let two = both-left (few && first) fewer three in
+    ap whole
+    (groups-read groups (length (groupsBytes groups ++ recordOf 3 [])) 0 0 0
+    (let h = leb-true (length groups) 16 (both-left few first two) in omega arith)
+    (let h = leb-true (ruleCount groups) 128 (both-right (few && first) fewer three) in omega arith)
+    (both-right (few && first && fewer) each all)
+    (λ none. both-right few first two)
+    (omega arith))

@@ -1,0 +1,155 @@
+-- Reading a sheet, record by record. Assumes nothing.
+use Prim.Native.Nat.{ℕ, zero, suc, _+_, _-_, _≤_, _<_}
+use mathlib.Core.Path.{_≡_, refl, sym, ap, _∙_}
+use mathlib.Core.Bool.{Bool, true, false, not, cond, _&&_, _||_}
+use mathlib.Core.List.{List, [], _∷_, _++_}
+use native.Mathlib.Omega.{arith}
+use lib.ListN.{length}
+use Rattle.paper.specs.Groups.{Rule, Gate, Group}
+use Rattle.sheets.specs.Records.{
+  bodyLength,
+  kind,
+  body,
+  after,
+  gate,
+  rule,
+  cut,
+  faultyGroup,
+  misplacedGroup,
+  faultyRule,
+  misplacedRule,
+  faultyEnd,
+  byKind,
+  faultyAlone,
+  misplaced,
+  faulty,
+}
+use Rattle.sheets.specs.Sheets.{Rest, faulty-at, holding, ruleThen, groupThen, readRest}
+use Rattle.sheets.specs.RecordLaws.{
+  at-group,
+  at-rule,
+  at-end,
+  Alone,
+  a-fault,
+  a-group,
+  a-rule,
+  an-end,
+  alone,
+}
+use Rattle.sheets.specs.ByteLaws.{long, length-after}
+
+-- ## One record
+module _ (groups rules : ℕ) (rest : List ℕ) where
+  pub fault-alone : faultyAlone rest ≡ true → faulty groups rules rest ≡ true
+  unfolding faulty
+  fault-alone is = simp is
+
+  pub group-fault : cut rest ≡ false → kind rest ≡ 1 → faultyGroup (body rest) ≡ false
+      → faulty groups rules rest ≡ misplacedGroup groups (body rest)
+  unfolding faulty faultyAlone misplaced
+  group-fault whole is sound = rw (whole, at-group rest (faultyGroup (body rest)) (faultyRule (body rest)) (faultyEnd rest) true is, at-group rest _ _ _ _ is, sound) refl
+
+  pub rule-fault : cut rest ≡ false → kind rest ≡ 2 → faultyRule (body rest) ≡ false
+      → faulty groups rules rest ≡ misplacedRule groups rules
+  unfolding faulty faultyAlone misplaced
+  rule-fault whole is sound = rw (whole, at-rule rest (faultyGroup (body rest)) (faultyRule (body rest)) (faultyEnd rest) true is, at-rule rest _ _ _ _ is, sound) refl
+
+  end-fault : cut rest ≡ false → kind rest ≡ 3 → length rest ≡ 4 → faulty groups rules rest ≡ false
+  unfolding faulty faultyAlone misplaced faultyEnd
+  end-fault whole is last = rw (whole, at-end rest (faultyGroup (body rest)) (faultyRule (body rest)) (faultyEnd rest) true is, at-end rest _ _ _ _ is, last) refl
+
+-- ## One step of reading
+module _ (more groups rules place : ℕ) (rest : List ℕ) where
+  pub fault-step : faulty groups rules rest ≡ true → readRest (suc more) groups rules place rest ≡ faulty-at place
+  unfolding readRest
+  fault-step is = rw is refl
+
+  pub group-step : cut rest ≡ false → kind rest ≡ 1 → faultyGroup (body rest) ≡ false
+      → misplacedGroup groups (body rest) ≡ false
+      → readRest (suc more) groups rules place rest
+      ≡ groupThen (gate (body rest)) (readRest more (suc groups) rules (place + (4 + bodyLength rest)) (after rest))
+  unfolding readRest
+  group-step whole is sound placed = rw (group-fault groups rules rest whole is sound ∙ placed, at-group rest _ _ _ _ is) refl
+
+  pub rule-step : cut rest ≡ false → kind rest ≡ 2 → faultyRule (body rest) ≡ false → misplacedRule groups rules ≡ false
+      → readRest (suc more) groups rules place rest
+      ≡ ruleThen (rule (body rest)) (readRest more groups (suc rules) (place + (4 + bodyLength rest)) (after rest))
+  unfolding readRest
+  rule-step whole is sound placed = rw (rule-fault groups rules rest whole is sound ∙ placed, at-rule rest _ _ _ _ is) refl
+
+  pub end-step : cut rest ≡ false → kind rest ≡ 3 → length rest ≡ 4
+      → readRest (suc more) groups rules place rest ≡ holding [] []
+  unfolding readRest
+  end-step whole is last = rw (end-fault groups rules rest whole is last, at-end rest _ _ _ _ is) refl
+
+-- what stands at a place, after so many groups and rules
+pub data Found (groups rules : ℕ) (rest : List ℕ) : Type 0 where
+  found-fault : faulty groups rules rest ≡ true → Found groups rules rest
+  found-group :
+      cut rest ≡ false
+      → kind rest ≡ 1
+      → faultyGroup (body rest) ≡ false
+      → misplacedGroup groups (body rest) ≡ false
+      → Found groups rules rest
+  found-rule :
+      cut rest ≡ false
+      → kind rest ≡ 2
+      → faultyRule (body rest) ≡ false
+      → misplacedRule groups rules ≡ false
+      → Found groups rules rest
+  found-end : cut rest ≡ false → kind rest ≡ 3 → length rest ≡ 4 → Found groups rules rest
+
+module _ (groups rules : ℕ) (rest : List ℕ) where
+  placed-group : (wrong : Bool) → misplacedGroup groups (body rest) ≡ wrong → cut rest ≡ false → kind rest ≡ 1
+      → faultyGroup (body rest) ≡ false → Found groups rules rest
+  placed-group true found whole is sound = found-fault (group-fault groups rules rest whole is sound ∙ found)
+  placed-group false found whole is sound = found-group whole is sound found
+
+  placed-rule : (wrong : Bool) → misplacedRule groups rules ≡ wrong → cut rest ≡ false → kind rest ≡ 2
+      → faultyRule (body rest) ≡ false → Found groups rules rest
+  placed-rule true found whole is sound = found-fault (rule-fault groups rules rest whole is sound ∙ found)
+  placed-rule false found whole is sound = found-rule whole is sound found
+
+  placed : Alone rest → Found groups rules rest
+  placed (a-fault is answer) = found-fault (fault-alone groups rules rest is)
+  placed (a-group whole is sound answer) = placed-group (misplacedGroup groups (body rest)) refl whole is sound
+  placed (a-rule whole is sound answer) = placed-rule (misplacedRule groups rules) refl whole is sound
+  placed (an-end whole is last answer) = found-end whole is last
+
+  pub look : Found groups rules rest
+  look = placed (alone rest)
+
+-- ## The first number is enough if it is at least the length
+shorter : (rest : List ℕ) (more : ℕ) → cut rest ≡ false → length rest ≤ suc more → length (after rest) ≤ more
+shorter rest more whole enough = let h = long rest whole in rw (length-after rest) (omega arith)
+
+pub faulty-empty : (groups rules : ℕ) (rest : List ℕ) → length rest ≤ 0 → faulty groups rules rest ≡ true
+unfolding faulty faultyAlone cut
+faulty-empty groups rules [] none = refl
+faulty-empty groups rules (x ∷ rest) none = absurd (omega arith)
+
+module _ (more other groups rules place : ℕ) (rest : List ℕ) where
+  -- both sides take the same step
+  same-step :
+      ((g r p : ℕ) (l : List ℕ) → length l ≤ more → length l ≤ other → readRest more g r p l ≡ readRest other g r p l)
+      → length rest ≤ suc more → length rest ≤ suc other → Found groups rules rest
+      → readRest (suc more) groups rules place rest ≡ readRest (suc other) groups rules place rest
+  same-step further a b (found-fault is) = fault-step more groups rules place rest is ∙ sym (fault-step other groups rules place rest is)
+  same-step further a b (found-group whole is sound well) =
+      group-step more groups rules place rest whole is sound well
+      ∙ (ap (groupThen (gate (body rest))) (further (suc groups) rules (place + (4 + bodyLength rest)) (after rest) (shorter rest more whole a) (shorter rest other whole b))
+      ∙ sym (group-step other groups rules place rest whole is sound well))
+  same-step further a b (found-rule whole is sound well) =
+      rule-step more groups rules place rest whole is sound well
+      ∙ (ap (ruleThen (rule (body rest))) (further groups (suc rules) (place + (4 + bodyLength rest)) (after rest) (shorter rest more whole a) (shorter rest other whole b))
+      ∙ sym (rule-step other groups rules place rest whole is sound well))
+  same-step further a b (found-end whole is last) = end-step more groups rules place rest whole is last ∙ sym (end-step other groups rules place rest whole is last)
+
+pub enough : (more other groups rules place : ℕ) (rest : List ℕ) → length rest ≤ more → length rest ≤ other
+    → readRest more groups rules place rest ≡ readRest other groups rules place rest
+unfolding readRest
+enough zero zero groups rules place rest a b = refl
+enough zero (suc other) groups rules place rest a b = sym (fault-step other groups rules place rest (faulty-empty groups rules rest a))
+enough (suc more) zero groups rules place rest a b = fault-step more groups rules place rest (faulty-empty groups rules rest b)
+enough (suc more) (suc other) groups rules place rest a b =
+    same-step more other groups rules place rest (λ g r p l. enough more other g r p l) a b (look groups rules rest)

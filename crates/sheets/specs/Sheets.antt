@@ -1,0 +1,46 @@
+-- Document 01, "The sheet": reading a whole sheet. "The place of the refusal is the offset where the first faulty record
+-- starts." Assumes nothing.
+use Prim.Native.Nat.{ℕ, zero, suc, _+_}
+use mathlib.Core.Bool.{Bool, true, false, cond}
+use mathlib.Core.List.{List, [], _∷_}
+use lib.ListN.{length}
+use Rattle.paper.specs.Groups.{Rule, Gate, Group}
+use Rattle.sheets.specs.Records.{bodyLength, body, after, gate, rule, byKind, faulty}
+
+-- what the bytes from some place on hold: a first faulty record, at its place; or rules up to the next group, and groups
+pub data Rest : Type 0 where
+  faulty-at : ℕ → Rest
+  holding : List Rule → List Group → Rest
+
+-- a rule stands before the rest
+abbrev pub ruleThen : Rule → Rest → Rest
+ruleThen one (faulty-at place) = faulty-at place
+ruleThen one (holding rules groups) = holding (one ∷ rules) groups
+
+-- a group of this gate stands before the rest, and takes the rules up to the next group
+abbrev pub groupThen : Gate → Rest → Rest
+groupThen one (faulty-at place) = faulty-at place
+groupThen one (holding rules groups) = holding [] (record { gate = one; rules = rules } ∷ groups)
+
+-- the rest of a sheet from a place on, after so many groups and rules. The first number is at least the length of the rest:
+-- each record takes some of it. An empty rest is a faulty record: fewer than 4 bytes remain for its head.
+unfoldable pub readRest : ℕ → ℕ → ℕ → ℕ → List ℕ → Rest
+readRest zero groups rules place rest = faulty-at place
+readRest (suc more) groups rules place rest =
+    let next = place + (4 + bodyLength rest) in
+    let afterGroup = groupThen (gate (body rest)) (readRest more (suc groups) rules next (after rest)) in
+    let afterRule = ruleThen (rule (body rest)) (readRest more groups (suc rules) next (after rest)) in
+    cond (faulty groups rules rest) (faulty-at place) (byKind rest afterGroup afterRule (holding [] []) (faulty-at place))
+
+-- a sheet, read: the place of its first faulty record, or the groups that it holds
+pub data Sheet : Type 0 where
+  refused : ℕ → Sheet
+  accepted : List Group → Sheet
+
+-- a rule before any group is faulty, so no rule stands before the first group
+abbrev pub whole : Rest → Sheet
+whole (faulty-at place) = refused place
+whole (holding rules groups) = accepted groups
+
+unfoldable pub readSheet : List ℕ → Sheet
+readSheet sheet = whole (readRest (length sheet) 0 0 0 sheet)

@@ -1,0 +1,157 @@
+-- The body of a rule within 01's bounds, read: it is not faulty, and reads as that rule. Assumes nothing.
+use Prim.Native.Nat.{ℕ, zero, suc, _+_, _-_, _≤_, _<_}
+use mathlib.Core.Path.{_≡_, refl, sym, ap, _∙_}
+use mathlib.Core.Bool.{Bool, true, false, not, cond, _&&_, _||_, true≢false, false≢true}
+use mathlib.Core.List.{List, [], _∷_, _++_}
+use native.Mathlib.Omega.{arith}
+use lib.Dec.{eqb, leb, ltb}
+use lib.ListN.{length, getD, take, drop, length-append}
+use lib.Seq.{drop-drop, take-append-seam, drop-append-seam}
+use borrow.Author.Tests.{le-ltb, leb-true, eqb-true, eq-eqb}
+use Rattle.paper.specs.Groups.{Action, replace, single-letter, Rule}
+use Rattle.sheets.specs.Records.{
+  condition,
+  actionNumber,
+  opensNumber,
+  endingLength,
+  ending,
+  replacement,
+  rule,
+  outside,
+  faultyNumbers,
+  faultyLetters,
+  faultyAction,
+  faultyRule,
+}
+use Rattle.sheets.specs.Bytes.{numberOfAction, replacementOf, ruleBody, letters, atMost12, allowedAction, allowed}
+use Rattle.sheets.specs.Tests.{both-left, both-right}
+use Rattle.sheets.specs.RuleLaws.{not-outside}
+
+pub ending-read : (one : Rule) → ending (ruleBody one) ≡ one .ending
+unfolding ending ruleBody
+ending-read one = take-append-seam (one .ending) (replacementOf (one .action))
+
+pub replacement-read : (one : Rule) → replacement (ruleBody one) ≡ replacementOf (one .action)
+unfolding replacement ruleBody
+replacement-read one =
+    sym (drop-drop (length (one .ending)) 4 (ruleBody one)) ∙ drop-append-seam (one .ending) (replacementOf (one .action))
+
+pub rule-length : (one : Rule) → length (ruleBody one) ≡ 4 + (length (one .ending) + length (replacementOf (one .action)))
+unfolding ruleBody
+rule-length one = omega (arith, length-append (one .ending) (replacementOf (one .action)))
+
+action-read : (action : Action) → cond (eqb (numberOfAction action) 0) (replace (replacementOf action)) single-letter ≡ action
+action-read (replace s2) = refl
+action-read single-letter = refl
+
+action-is : (one : Rule)
+    → cond (eqb (numberOfAction (one .action)) 0) (replace (replacement (ruleBody one))) single-letter ≡ one .action
+action-is one = rw (replacement-read one) (action-read (one .action))
+
+opens-read : (opens : Bool) → eqb (cond opens 1 0) 1 ≡ opens
+opens-read true = refl
+opens-read false = refl
+
+pub rule-read : (one : Rule) → rule (ruleBody one) ≡ one
+unfolding rule ruleBody
+rule-read one = λ i.
+    record {
+      condition = one .condition;
+      ending = ending-read one i;
+      action = action-is one i;
+      opens = opens-read (one .opens) i;
+    }
+
+-- what is known of a rule within the bounds
+pub record Bounds (one : Rule) : Type 0 where
+  pub low-condition : one .condition ≤ 8
+  pub short-ending : length (one .ending) ≤ 12
+  pub ending-letters : letters (one .ending) ≡ true
+  pub fit-action : allowedAction one (one .action) ≡ true
+
+pub bounds : (one : Rule) → allowed one ≡ true → Bounds one
+unfolding allowed atMost12
+bounds one all =
+    let first = leb (one .condition) 8 in
+    let second = atMost12 (one .ending) in
+    let both = both-left (first && second) (allowedAction one (one .action)) all in
+    let ends = both-right first second both in
+    record {
+      low-condition = leb-true _ _ (both-left first second both);
+      short-ending = leb-true _ _ (both-left (leb (length (one .ending)) 12) (letters (one .ending)) ends);
+      ending-letters = both-right (leb (length (one .ending)) 12) (letters (one .ending)) ends;
+      fit-action = both-right (first && second) (allowedAction one (one .action)) all;
+    }
+
+short-replacement : (one : Rule) (action : Action) → allowedAction one action ≡ true → length (replacementOf action) ≤ 12
+unfolding allowedAction atMost12
+short-replacement one (replace s2) fits = leb-true _ _ (both-left (leb (length s2) 12) (letters s2) fits)
+short-replacement one single-letter fits = omega arith
+
+replacement-letters : (one : Rule) (action : Action) → allowedAction one action ≡ true → outside (replacementOf action) ≡ false
+unfolding allowedAction atMost12 outside
+replacement-letters one (replace s2) fits = not-outside s2 (both-right (leb (length s2) 12) (letters s2) fits)
+replacement-letters one single-letter fits = refl
+
+pub length-at-most : (one : Rule) → allowed one ≡ true → length (ruleBody one) ≤ 28
+length-at-most one all =
+    let is = bounds one all in
+    let a = short-replacement one (one .action) (is .fit-action) in
+    let b = is .short-ending in
+    rw (rule-length one) (omega arith)
+
+action-low : (action : Action) → numberOfAction action ≤ 1
+action-low (replace s2) = omega arith
+action-low single-letter = omega arith
+
+opens-low : (opens : Bool) → cond opens 1 0 ≤ 1
+opens-low true = omega arith
+opens-low false = omega arith
+
+sound-numbers : (one : Rule) → allowed one ≡ true → faultyNumbers (ruleBody one) ≡ false
+unfolding faultyNumbers ruleBody
+sound-numbers one all =
+    let is = bounds one all in
+    let n = length (one .ending) in
+    let long = length-append (one .ending) (replacementOf (one .action)) in
+    simp (
+      le-ltb (length (ruleBody one)) 4 (omega arith),
+      le-ltb 8 (one .condition) (is .low-condition),
+      le-ltb 1 (numberOfAction (one .action)) (action-low (one .action)),
+      le-ltb 1 (cond (one .opens) 1 0) (opens-low (one .opens)),
+      le-ltb 12 n (is .short-ending),
+      le-ltb (length (ruleBody one)) (4 + n) (omega arith),
+    )
+
+sound-letters : (one : Rule) → allowed one ≡ true → faultyLetters (ruleBody one) ≡ false
+unfolding faultyLetters
+sound-letters one all =
+    let is = bounds one all in
+    simp (
+      ending-read one,
+      replacement-read one,
+      le-ltb 12 (length (replacementOf (one .action))) (short-replacement one (one .action) (is .fit-action)),
+      not-outside (one .ending) (is .ending-letters),
+      replacement-letters one (one .action) (is .fit-action),
+    )
+
+fits-action : (one : Rule) (action : Action) → allowedAction one action ≡ true
+    → (eqb (numberOfAction action) 1
+    && (not (eqb (one .condition) 5 || eqb (one .condition) 8)
+    || not (eqb (length (one .ending)) 0)
+    || not (eqb (length (replacementOf action)) 0)))
+    ≡ false
+unfolding allowedAction
+fits-action one (replace s2) fits = refl
+fits-action one single-letter fits =
+    let condition-is = both-left (eqb (one .condition) 5 || eqb (one .condition) 8) (eqb (length (one .ending)) 0) fits in
+    let ending-is = both-right (eqb (one .condition) 5 || eqb (one .condition) 8) (eqb (length (one .ending)) 0) fits in
+    simp (condition-is, ending-is)
+
+sound-action : (one : Rule) → allowed one ≡ true → faultyAction (ruleBody one) ≡ false
+unfolding faultyAction ruleBody
+sound-action one all = rw (ending-read one, replacement-read one) (fits-action one (one .action) (bounds one all .fit-action))
+
+pub rule-sound : (one : Rule) → allowed one ≡ true → faultyRule (ruleBody one) ≡ false
+unfolding faultyRule
+rule-sound one all = simp (sound-numbers one all, sound-letters one all, sound-action one all)
