@@ -13,6 +13,7 @@ use Rattle.tables.specs.NumberLaws.{number-cong, Every}
 use Rattle.tables.specs.NodeLaws.{child-siblings, root-no-child}
 use Rattle.tables.specs.ChainLaws.{rows-length, first-child-at, next-sibling-at}
 use Rattle.tables.specs.Laying.{chainEnd, endOf}
+use Rattle.tables.specs.WalkSteps.{end-here}
 
 pub data Ends (nodes : List Node) (parent : Node) (later : List Node) (link place : ℕ) : Type 0 where
   no-more : Every (λ one. isChild parent one ≡ false) later → place ≡ link → Ends nodes parent later link place
@@ -30,11 +31,6 @@ after-other : (nodes : List Node) (parent one : Node) (later : List Node) (link 
     → isChild parent one ≡ false → Ends nodes parent later link place → Ends nodes parent (one ∷ later) link place
 after-other nodes parent one later link place p (no-more e q) = no-more (p, e) q
 after-other nodes parent one later link place p (last-child front last back s h e q) = last-child front last back s h e q
-
-end-here : (steps : ℕ) (table : List ℕ) (link : ℕ) → getD table link 0 ≡ 0 → chainEnd steps table link ≡ link
-unfolding chainEnd
-end-here zero table link e = refl
-end-here (suc steps) table link e = rw e
 
 chain-ends : (nodes rules : List Node) (parent : Node) (steps : ℕ) (before later : List Node) (link : ℕ) → before ++ later ≡ nodes → 0 < length before
     → length later ≤ steps → getD (rows nodes rules 0 nodes) link 0 ≡ numberOf (isChild parent) (length before) later

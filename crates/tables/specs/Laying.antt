@@ -30,6 +30,9 @@ pub record Laying : Type 0 where
   pub count : ℕ
   pub at : ℕ
 
+abbrev pub laying : List ℕ → ℕ → ℕ → Laying
+laying table count at = record { table = table; count = count; at = at }
+
 -- one letter inward: "a node is added if its parent has no child of that letter yet, at the end of the parent's chain". Where
 -- there is no room for it, nothing is added.
 unfoldable pub grow : ℕ → Laying → Laying

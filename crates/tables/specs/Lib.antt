@@ -19,9 +19,9 @@ pub mod TranslationFaithful
 pub mod Demand3
 pub mod DistinctLaws
 pub mod CountLaws
-pub mod WalkSteps
 pub mod HangLaws
 pub mod Laying
+pub mod WalkSteps
 pub mod ChainEndLaws
 pub mod SoundLaws
 pub mod LayingLaws

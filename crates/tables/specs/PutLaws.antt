@@ -64,3 +64,9 @@ hung-front count link letter table room within = go (four (drop (4 * count) tabl
 pub hung-length : (count link letter : ℕ) (table : List ℕ) → length (hung count link letter table) ≡ length table
 unfolding hung
 hung-length count link letter table = simp length-set
+
+pub hung-stores : (count link letter : ℕ) (t₀ t₁ t₂ t₃ t₄ : List ℕ) (t₅ : List ℕ) → t₁ ≡ set t₀ link count → t₂ ≡ set t₁ (4 * count) letter
+    → t₃ ≡ set t₂ (4 * count + 1) 0 → t₄ ≡ set t₃ (4 * count + 2) 0 → t₅ ≡ set t₄ (4 * count + 3) 0
+    → t₅ ≡ hung count link letter t₀
+unfolding hung
+hung-stores count link letter t₀ t₁ t₂ t₃ t₄ t₅ a b c d e = rw (e, d, c, b, a)
