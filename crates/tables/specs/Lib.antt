@@ -28,3 +28,4 @@ pub mod LayingLaws
 pub mod PutLaws
 pub mod EnterLaws
 pub mod NoteLaws
+pub mod SheetPlaces
