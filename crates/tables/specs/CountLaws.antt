@@ -125,7 +125,7 @@ groups-length number (group ∷ groups) nodes none =
     ∙ rw (none one (omega arith) letter parent, ways-group one letter parent number (group .rules), ne-eqb one number (λ e. omega arith))) in
     rw (grown-append nodes own (ends (suc number) groups)) (omega arith)
 
-roots-length : (number : ℕ) (groups : List Group) → length (roots number groups) ≡ length groups
+pub roots-length : (number : ℕ) (groups : List Group) → length (roots number groups) ≡ length groups
 unfolding roots
 roots-length number [] = refl
 roots-length number (group ∷ groups) = ap suc (roots-length (suc number) groups)

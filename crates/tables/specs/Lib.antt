@@ -29,3 +29,4 @@ pub mod PutLaws
 pub mod EnterLaws
 pub mod NoteLaws
 pub mod SheetPlaces
+pub mod TranslationSteps
