@@ -28,5 +28,7 @@ pub mod LayingLaws
 pub mod PutLaws
 pub mod EnterLaws
 pub mod NoteLaws
+pub mod Answers
 pub mod SheetPlaces
 pub mod TranslationSteps
+pub mod GoingLaws
