@@ -11,6 +11,8 @@ use Rattle.paper.specs.Letters.{inward}
 use Rattle.paper.specs.Groups.{Rule, Gate, Group}
 use Rattle.sheets.specs.Sheets.{Sheet, accepted, readSheet}
 use Rattle.sheets.specs.Nodes.{nodeCount}
+use Rattle.sheets.specs.NodeLaws.{at-most-1552}
+use Rattle.sheets.specs.WriteBack.{write-back}
 use Rattle.sheets.specs.RecordLaws.{GroupHere, RuleHere, EndHere}
 use Rattle.tables.specs.Layout.{Node, node, ends, tableOf}
 use Rattle.tables.specs.Laying.{laying, enter, note}
@@ -44,10 +46,11 @@ module _ (sheet : List ℕ) (at count : ℕ) (state : Counting sheet at count) w
   pub counting-group : (number : ℕ) → GroupHere (drop at sheet) number → Counting sheet (at + 6) (count + 1) × (at + 6 ≤ length sheet) × (count < 16)
   counting-group number here =
       let next = group-found number here in
-      let shorter = ap length (next .group-first) in
-      ( record { rules = state .rules; list = next .rules-then; more = next .groups-then; holds = next .holds; total = omega (arith, state .total, shorter) }
-      , next .inside
-      , next .few )
+      let shorter = ap length (next .group-first) in (
+        record { rules = state .rules; list = next .rules-then; more = next .groups-then; holds = next .holds; total = omega (arith, state .total, shorter) },
+        next .inside,
+        next .few,
+      )
 
   pub counting-rule : (s1 s2 : ℕ) → RuleHere (drop at sheet) s1 s2
       → Counting sheet (at + (8 + s1 + s2)) count × (at + (8 + s1 + s2) ≤ length sheet)
@@ -105,7 +108,8 @@ going-start sheet table count is h c zeros fits room =
       total = zero-add (length (groupsOf sheet));
       root-in = omega arith;
       midway = start-with (groupsOf sheet) table count h c zeros fits;
-      room = room }
+      room = room;
+    }
 
 module _ (sheet table : List ℕ) (at root next rules count : ℕ) (state : Going sheet table at root next rules count) where
   pub going-group : (number : ℕ) → GroupHere (drop at sheet) number
@@ -114,17 +118,19 @@ module _ (sheet table : List ℕ) (at root next rules count : ℕ) (state : Goin
       let found = group-next sheet at next rules (state .list) (state .more) (state .holds) number here in
       let shorter = ap length (found .group-first) in
       let left =
-        ends-group root next (state .list) (state .more) (found .gate-then) (found .rules-then) (found .groups-then) (found .none-before) (found .group-first) in
-      ( record {
+      ends-group root next (state .list) (state .more) (found .gate-then) (found .rules-then) (found .groups-then) (found .none-before) (found .group-first) in (
+        record {
           list = found .rules-then;
           more = found .groups-then;
           holds = found .holds;
           total = omega (arith, state .total, shorter);
           root-in = omega (arith, state .total, shorter);
           midway = subst (Midway (groupsOf sheet) table count rules) left (state .midway);
-          room = state .room }
-      , found .inside
-      , found .few )
+          room = state .room;
+        },
+        found .inside,
+        found .few,
+      )
 
   pub going-rule : (s1 s2 : ℕ) → RuleHere (drop at sheet) s1 s2 → (table′ : List ℕ) (count′ : ℕ)
       → table′ ≡ note (rules + 1) (enter (inward (take s1 (drop (at + 8) sheet))) (laying table count root)) .table
@@ -135,8 +141,8 @@ module _ (sheet table : List ℕ) (at root next rules count : ℕ) (state : Goin
       let left = ends-rule root next (state .list) (state .more) (found .one) (found .rules-then) (found .rule-first) in
       let midway = subst (Midway (groupsOf sheet) table count rules) left (state .midway) in
       let stepped =
-        next-rule (groupsOf sheet) table count rules root (found .one .ending) (endsLeft root next (found .rules-then) (state .more)) midway (state .root-in)
-        (state .room) table′ count′ (rules + 1) (rw (found .ending-here, add-one rules) at t) (rw (found .ending-here) at c) (add-one rules) in
+      next-rule (groupsOf sheet) table count rules root (found .one .ending) (endsLeft root next (found .rules-then) (state .more)) midway (state .root-in)
+      (state .room) table′ count′ (rules + 1) (rw (found .ending-here, add-one rules) at t) (rw (found .ending-here) at c) (add-one rules) in
       record {
         list = found .rules-then;
         more = state .more;
@@ -144,7 +150,8 @@ module _ (sheet table : List ℕ) (at root next rules count : ℕ) (state : Goin
         total = state .total;
         root-in = state .root-in;
         midway = stepped .0;
-        room = stepped .1 ∙ state .room }
+        room = stepped .1 ∙ state .room;
+      }
 
   pub going-inside : (s1 s2 : ℕ) → RuleHere (drop at sheet) s1 s2 → (at + (8 + s1 + s2) ≤ length sheet) × (rules < 128)
   going-inside s1 s2 here =
@@ -155,3 +162,19 @@ module _ (sheet table : List ℕ) (at root next rules count : ℕ) (state : Goin
   going-end here =
       let over = end-next sheet at next rules (state .list) (state .more) (state .holds) here in
       midway-end (groupsOf sheet) table count rules (endsLeft root next (state .list) (state .more)) (ends-over root next (state .list) (state .more) (over .0) (over .1)) (state .midway) (state .room)
+
+-- the table of an accepted sheet is small
+pub small-table : (sheet : List ℕ) → Accepted sheet → 4 * nodeCount (groupsOf sheet) ≤ 6208
+small-table sheet is =
+    let few = at-most-1552 (groupsOf sheet) (write-back sheet (groupsOf sheet) is .1) in
+    omega arith
+
+pub roots-fit : (groups : List Group) → 4 * length groups ≤ 4 * nodeCount groups
+unfolding nodeCount
+roots-fit [] = omega arith
+roots-fit (group ∷ groups) = let rest = roots-fit groups in omega arith
+
+pub zeros-front : (n m : ℕ) → n ≤ m → take {A = ℕ} n (replicate m 0) ≡ replicate n 0
+zeros-front zero m h = refl
+zeros-front (suc n) zero h = absurd (omega arith)
+zeros-front (suc n) (suc m) h = ap (λ (rest : List ℕ). 0 ∷ rest) (zeros-front n m (omega arith))

@@ -32,3 +32,4 @@ pub mod Answers
 pub mod SheetPlaces
 pub mod TranslationSteps
 pub mod GoingLaws
+pub mod TranslationAnswers

@@ -42,9 +42,10 @@ RootsAt all nodes = (group : ℕ) → group < length all → (present (node grou
 
 roots-more : (all : List Group) (nodes extra : List Node) → RootsAt all nodes → RootsAt all (nodes ++ extra)
 roots-more all nodes extra there group h =
-    let here = there group h in
-    ( present-append (node group []) nodes extra ∙ or-left (present (node group []) nodes) (present (node group []) extra) (here .0)
-    , number-more (node group []) 0 nodes extra (here .0) ∙ here .1 )
+    let here = there group h in (
+      present-append (node group []) nodes extra ∙ or-left (present (node group []) nodes) (present (node group []) extra) (here .0),
+      number-more (node group []) 0 nodes extra (here .0) ∙ here .1,
+    )
 
 -- What is known between two rules: the numbers so far, and the nodes where the rules that are left end
 
@@ -101,8 +102,8 @@ module _ (all : List Group) (table : List ℕ) (count rules-so-far group : ℕ) 
       let end = node group ending in
       let noted = standing-noted 0 (after-entering .more) (midway .rules) end (enter (inward ending) start) (after-entering .standing) in
       let behind = added-extends nodes (way group ending) in
-      let stored = t ∙ ap (λ (n : ℕ). note (suc n) (enter (inward ending) start) .table) (midway .rules-counted) in
-      ( record {
+      let stored = t ∙ ap (λ (n : ℕ). note (suc n) (enter (inward ending) start) .table) (midway .rules-counted) in (
+        record {
           others = after-entering .more;
           rules = midway .rules ++ end ∷ [];
           laid = rw (stored, c) (noted .laid);
@@ -112,8 +113,10 @@ module _ (all : List Group) (table : List ℕ) (count rules-so-far group : ℕ) 
           roots-there = subst (RootsAt all) (sym (behind .after) ∙ after-entering .nodes) (roots-more all nodes (behind .extra) (midway .roots-there));
           rules-counted = omega (arith, r, midway .rules-counted, length-append (midway .rules) (end ∷ []));
           nodes-left = rw (← after-entering .nodes) grown-left;
-          rules-left = append-assoc (midway .rules) (end ∷ []) left ∙ midway .rules-left }
-      , ap length t ∙ noted-length )
+          rules-left = append-assoc (midway .rules) (end ∷ []) left ∙ midway .rules-left;
+        },
+        ap length t ∙ noted-length,
+      )
 
 -- The start: the roots, of which all numbers are 0
 
@@ -153,14 +156,14 @@ roots-at group number [] low high = absurd (omega arith)
 roots-at group number (one ∷ groups) low high =
     by-test (eqb group number)
     (λ p.
-      let here = eqb-true group number p in
-      let it : sameNode (node group []) (node number []) ≡ true = rw here (same-node-refl (node number [])) in
-      (or-left (sameNode (node group []) (node number [])) (present (node group []) (roots (suc number) groups)) it, rw it (sym here)))
+    let here = eqb-true group number p in
+    let it : sameNode (node group []) (node number []) ≡ true = rw here (same-node-refl (node number [])) in
+    (or-left (sameNode (node group []) (node number [])) (present (node group []) (roots (suc number) groups)) it, rw it (sym here)))
     (λ p.
-      let other = other-group group number [] [] p in
-      let apart = eqb-false group number p in
-      let rest = roots-at group (suc number) groups (below-apart group number low apart) (omega arith) in
-      (rw other (rest .0), rw other (rest .1)))
+    let other = other-group group number [] [] p in
+    let apart = eqb-false group number p in
+    let rest = roots-at group (suc number) groups (below-apart group number low apart) (omega arith) in
+    (rw other (rest .0), rw other (rest .1)))
   where
     below-apart : (group number : ℕ) → number ≤ group → (group ≡ number → ⊥) → suc number ≤ group
     below-apart group number low apart = omega arith
@@ -184,11 +187,13 @@ midway-start group groups table count c zeros fits =
       sound = record {
         distinct = roots-distinct 0 all;
         closed = λ one letter parent e. absurd (false≢true (sym (roots-no-tail one letter parent 0 all) ∙ e));
-        ends-present = λ one e. refl };
+        ends-present = λ one e. refl;
+      };
       roots-there = λ one h. roots-at one 0 all (omega arith) (omega arith);
       rules-counted = refl;
       nodes-left = refl;
-      rules-left = refl }
+      rules-left = refl;
+    }
 
 -- The end: all rules are laid
 

@@ -1,6 +1,14 @@
 // Tables: the translation from a sheet to a table of nodes, and the run of such a table on a word.
+ghost use mathlib.Core.Path.{_≡_};
+ghost use Rattle.tables.specs.Answers.{translation};
+
 mod layings;
+mod sheet;
 mod walks;
+
+use sheet::group_count;
+use sheet::lay;
+use sheets::Checked;
 
 // What a translation answers: the nodes that it laid out, the place of the sheet's first faulty record, or that the lent table
 // is too short.
@@ -8,4 +16,25 @@ pub enum Translated {
     Nodes(usize),
     Refused(usize),
     Short,
+}
+
+// Translates a sheet to a table.
+pub fn translate(sheet: &[u8], table: &mut [u16]) -> Translated
+    ensures { λ r. ⌜ (r ≡ translation (now (sheet .entry)) (now (table .entry)) .answer) × (now (table .exit) ≡ translation (now (sheet .entry)) (now (table .entry)) .table) ⌝ }
+{
+    let found = sheets::check(sheet);
+    match found {
+        Checked::Refused(place) => Translated::Refused(place),
+        Checked::Accepted(nodes) => {
+            let end = 4 * nodes;
+            if table.len() < end {
+                return Translated::Short;
+            }
+            let groups = group_count(sheet);
+            if groups != 0 {
+                lay(sheet, &mut table[..end], groups);
+            }
+            Translated::Nodes(nodes)
+        }
+    }
 }
