@@ -4,6 +4,7 @@ ghost use Rattle.tables.specs.Answers.{translation};
 
 mod layings;
 mod sheet;
+pub mod shipped;
 mod walks;
 
 use sheet::group_count;
