@@ -33,3 +33,6 @@ pub mod SheetPlaces
 pub mod TranslationSteps
 pub mod GoingLaws
 pub mod TranslationAnswers
+pub mod RunAnswers
+pub mod PickLaws
+pub mod RunSteps

@@ -4,6 +4,7 @@ ghost use Rattle.tables.specs.Answers.{translation};
 
 mod layings;
 mod sheet;
+mod runs;
 pub mod shipped;
 mod walks;
 
