@@ -1,12 +1,12 @@
 -- Where a chain ends: at the parent's own link where it has no child, and else at the last child's. Assumes nothing.
 use Prim.Native.Nat.{ℕ, zero, suc, _+_, _*_, _≤_, _<_}
-use mathlib.Core.Path.{_≡_, refl, sym, ap, _∙_}
-use mathlib.Core.Bool.{Bool, true, false, cond}
+use mathlib.Core.Path.{_≡_, refl, _∙_}
+use mathlib.Core.Bool.{true, false}
 use mathlib.Core.List.{List, [], _∷_, _++_, append-assoc}
 use native.Mathlib.Omega.{arith}
-use lib.Dec.{eqb, lit<}
+use lib.Dec.{lit<}
 use lib.ListN.{length, getD, length-append}
-use borrow.Author.Tests.{ne-eqb, eq-eqb}
+use borrow.Author.Tests.{ne-eqb}
 use Rattle.tables.specs.Layout.{Node, node, isChild, isSibling, numberOf, rows}
 use Rattle.tables.specs.TestLaws.{by-test}
 use Rattle.tables.specs.NumberLaws.{number-cong, Every}

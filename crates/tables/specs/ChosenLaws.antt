@@ -1,8 +1,8 @@
 -- Which rules a group chooses for a word, over any rule list: the word's tails are tried from the longest on, and the first
 -- that is an ending of the group decides. Assumes nothing.
-use Prim.Native.Nat.{ℕ, suc, _-_, _≤_, _<_, max}
+use Prim.Native.Nat.{ℕ, suc, _-_, _≤_, _<_}
 use mathlib.Core.Path.{_≡_, refl, sym, ap, _∙_}
-use mathlib.Core.Bool.{Bool, true, false, cond, _&&_, false≢true}
+use mathlib.Core.Bool.{Bool, true, false, _&&_, false≢true}
 use mathlib.Core.List.{List, [], _∷_}
 use native.Mathlib.Omega.{arith}
 use native.Mathlib.Nat.{sub-self}
@@ -14,7 +14,7 @@ use Rattle.paper.specs.Groups.{Rule, same, endsWith, which, fitting, longest, c
 use Rattle.tables.specs.Layout.{numberOf}
 use Rattle.tables.specs.Faithful.{firstWith}
 use Rattle.tables.specs.TestLaws.{by-test, and-left, and-right, and-both, test-ext, same-eq, same-refl, eq-same, same-sym}
-use Rattle.tables.specs.NumberLaws.{number-none, number-least}
+use Rattle.tables.specs.NumberLaws.{number-none}
 
 -- Rules that pass a test
 

@@ -1,16 +1,15 @@
 -- The table has four numbers for each node that the node count counts. Assumes nothing.
-use Prim.Native.Nat.{ℕ, suc, _+_, _*_, _≤_, _<_}
-use mathlib.Core.Path.{_≡_, refl, sym, ap, ap₂, _∙_}
-use mathlib.Core.Bool.{Bool, true, false, cond, _&&_, _||_, or-false, or-assoc, or-comm, or-true}
+use Prim.Native.Nat.{ℕ, suc, _+_, _*_, _≤_}
+use mathlib.Core.Path.{_≡_, refl, sym, ap, _∙_}
+use mathlib.Core.Bool.{true, false, cond, _||_, or-false, or-assoc, or-comm, or-true}
 use mathlib.Core.List.{List, [], _∷_, _++_, map, append-assoc}
 use native.Mathlib.Nat.{le-refl}
 use native.Mathlib.Omega.{arith}
-use lib.Dec.{eqb}
 use lib.ListN.{length, length-append}
 use borrow.Author.Tests.{ne-eqb, eq-eqb}
 use Rattle.paper.specs.Groups.{Rule, Group, same}
-use Rattle.sheets.specs.Nodes.{tails, tailsOf, member, distinct, nodeCount}
-use Rattle.tables.specs.Layout.{Node, node, sameNode, present, roots, ends, way, added, grown, nodesOf, rows, tableOf}
+use Rattle.sheets.specs.Nodes.{tails, member, distinct, nodeCount}
+use Rattle.tables.specs.Layout.{Node, node, present, roots, ends, way, added, grown, nodesOf, tableOf}
 use Rattle.tables.specs.TestLaws.{by-test, same-eq}
 use Rattle.tables.specs.TailLaws.{member-append}
 use Rattle.tables.specs.GrownLaws.{present-added, present-grown, present-way}

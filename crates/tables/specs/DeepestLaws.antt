@@ -1,13 +1,12 @@
 -- The deepest node passed that holds a rule: the walk finds what the longest tail of the word that holds one holds.
 -- Assumes nothing.
-use Prim.Native.Nat.{ℕ, suc, _-_, _≤_, _<_}
+use Prim.Native.Nat.{ℕ}
 use mathlib.Core.Path.{_≡_, refl, sym, ap, _∙_}
-use mathlib.Core.Bool.{Bool, true, false, cond, false≢true}
+use mathlib.Core.Bool.{true, false, cond}
 use mathlib.Core.List.{List, [], _∷_, reverse, reverseAux, reverse-reverse}
-use mathlib.Core.Option.{Option, none, some}
-use native.Mathlib.Omega.{arith}
+use mathlib.Core.Option.{none, some}
 use lib.Dec.{eqb}
-use borrow.Author.Tests.{eqb-true, eqb-false, eq-eqb, ne-eqb}
+use borrow.Author.Tests.{eqb-true}
 use Rattle.paper.specs.Letters.{inward}
 use Rattle.tables.specs.Walk.{firstRule, child, deepest, onward, reached, held}
 use Rattle.tables.specs.TestLaws.{by-test}

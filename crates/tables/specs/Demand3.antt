@@ -6,7 +6,7 @@ use mathlib.Core.Path.{_≡_, fun-ext, ap}
 use mathlib.Core.List.{List}
 use Rattle.paper.specs.Groups.{Group}
 use Rattle.paper.specs.Shipped.{shipped}
-use Rattle.paper.specs.Words.{readWord, stem, wordOutcome, outcome}
+use Rattle.paper.specs.Words.{readWord, stem, wordOutcome}
 use Rattle.tables.specs.Layout.{tableOf}
 use Rattle.tables.specs.Walk.{walkWord}
 use Rattle.tables.specs.FaithfulWalks.{faithful-walks-words}

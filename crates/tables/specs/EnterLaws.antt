@@ -1,24 +1,17 @@
 -- What entering the ending of one rule does to the numbers of a table. Assumes nothing.
-use Prim.Native.Nat.{ℕ, zero, suc, _+_, _*_, _≤_, _<_}
-use mathlib.Core.Path.{_≡_, refl, sym, ap, subst, _∙_}
-use mathlib.Core.Bool.{Bool, true, false, not, cond, _||_, false≢true}
-use mathlib.Core.List.{List, [], _∷_, _++_, append-assoc, reverse, reverse-cons}
+use Prim.Native.Nat.{ℕ, _+_, _*_, _≤_}
+use mathlib.Core.Path.{_≡_, refl, ap, _∙_}
+use mathlib.Core.Bool.{cond}
+use mathlib.Core.List.{List, [], _∷_, _++_, reverse, reverse-cons}
 use native.Mathlib.Omega.{arith}
-use native.Mathlib.Nat.{zero-add, add-zero}
-use lib.Dec.{eqb, leb, lit<}
-use lib.ListN.{length, take, drop, set, getD, length-append, length-set}
-use lib.Seq.{getD-take, take-set-lt}
-use borrow.Author.Tests.{eqb-true, eqb-false, eq-eqb, ne-eqb}
+use lib.Dec.{eqb, leb}
+use lib.ListN.{length, take, length-append}
 use Rattle.paper.specs.Letters.{inward}
-use Rattle.tables.specs.Layout.{Node, node, sameNode, present, way, added, numberOf, rows}
-use Rattle.tables.specs.Walk.{child, firstRule}
-use Rattle.tables.specs.Laying.{hung, endOf, Laying, grow, enter, note}
+use Rattle.tables.specs.Layout.{Node, node, present, way, added}
+use Rattle.tables.specs.Walk.{child}
+use Rattle.tables.specs.Laying.{endOf, Laying, grow, enter}
 use Rattle.tables.specs.TestLaws.{by-test}
 use Rattle.tables.specs.PutLaws.{hung-length}
-use Rattle.tables.specs.NumberLaws.{number-kept, number-found, number-last, Every, every-false}
-use Rattle.tables.specs.PresentLaws.{Stands, stands}
-use Rattle.tables.specs.ChainLaws.{first-rule-at}
-use Rattle.tables.specs.SoundLaws.{Distinct, Sound, front-apart, back-apart, sound-rule}
 use Rattle.tables.specs.CountLaws.{added-last}
 use Rattle.tables.specs.LayingLaws.{Standing, standing-found, standing-added}
 

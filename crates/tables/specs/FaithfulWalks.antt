@@ -1,34 +1,16 @@
 -- Any table that is faithful to groups walks as the groups are read. Assumes nothing.
 use Prim.Native.Nat.{ℕ, suc, _+_, _-_, _≤_, _<_}
 use mathlib.Core.Path.{_≡_, refl, sym, ap, _∙_}
-use mathlib.Core.Bool.{Bool, true, false, cond, false≢true}
+use mathlib.Core.Bool.{Bool, false}
 use mathlib.Core.List.{List, [], _∷_}
-use mathlib.Core.Option.{Option, none, some}
+use mathlib.Core.Option.{some}
 use native.Mathlib.Omega.{arith}
 use native.Mathlib.Nat.{sub-self}
-use lib.Dec.{eqb, leb, lit<}
+use lib.Dec.{eqb, lit<}
 use lib.ListN.{length, drop}
-use borrow.Author.Tests.{eqb-true, eqb-false, eq-eqb, ne-eqb}
+use borrow.Author.Tests.{eqb-true, eqb-false, eq-eqb}
 use Rattle.paper.specs.Letters.{inward}
-use Rattle.paper.specs.Conditions.{holds}
-use Rattle.paper.specs.Groups.{
-  Rule,
-  Group,
-  Reading,
-  Result,
-  done,
-  outgrown,
-  same,
-  before,
-  which,
-  first,
-  chosen,
-  obeyed,
-  resultOf,
-  readGroup,
-  runs,
-  read,
-}
+use Rattle.paper.specs.Groups.{Rule, Group, same, which, first, chosen, obeyed, resultOf, readGroup, read}
 use Rattle.paper.specs.Words.{readWord}
 use Rattle.tables.specs.Layout.{numberOf}
 use Rattle.tables.specs.Walk.{deepest, reached, held, walked, walkGroup, walk, walkWord}

@@ -1,7 +1,6 @@
 -- Going through a sheet while its groups are counted, and while its rules are laid out. Assumes nothing.
 use Prim.Native.Nat.{ℕ, zero, suc, _+_, _*_, _≤_, _<_}
-use mathlib.Core.Path.{_≡_, refl, sym, ap, subst, _∙_}
-use mathlib.Core.Bool.{Bool, true, false}
+use mathlib.Core.Path.{_≡_, refl, ap, subst, _∙_}
 use mathlib.Core.List.{List, [], _∷_, _++_, map}
 use native.Mathlib.Numerals.{add-one}
 use native.Mathlib.Nat.{zero-add}
@@ -9,7 +8,7 @@ use native.Mathlib.Omega.{arith}
 use lib.ListN.{length, take, drop, replicate}
 use Rattle.paper.specs.Letters.{inward}
 use Rattle.paper.specs.Groups.{Rule, Gate, Group}
-use Rattle.sheets.specs.Sheets.{Sheet, accepted, readSheet}
+use Rattle.sheets.specs.Sheets.{accepted, readSheet}
 use Rattle.sheets.specs.Nodes.{nodeCount}
 use Rattle.sheets.specs.NodeLaws.{at-most-1552}
 use Rattle.sheets.specs.WriteBack.{write-back}

@@ -1,10 +1,9 @@
 -- Which nodes the rules add. Assumes nothing.
-use Prim.Native.Nat.{ℕ, suc, _+_, _<_}
-use mathlib.Core.Path.{_≡_, refl, sym, ap, ap₂, _∙_}
-use mathlib.Core.Bool.{Bool, true, false, not, cond, _&&_, _||_, false≢true, or-assoc, or-comm, or-false, or-true, and-or-distrib-left, and-false}
+use Prim.Native.Nat.{ℕ}
+use mathlib.Core.Path.{_≡_, sym, ap, _∙_}
+use mathlib.Core.Bool.{Bool, false, cond, _&&_, _||_, or-assoc, or-comm, or-false, and-or-distrib-left, and-false}
 use mathlib.Core.List.{List, [], _∷_, _++_, append-assoc, append-nil}
 use lib.Dec.{eqb}
-use lib.ListN.{length}
 use Rattle.paper.specs.Groups.{same}
 use Rattle.sheets.specs.Nodes.{tails, member}
 use Rattle.tables.specs.Layout.{Node, node, sameNode, present, way, added, grown}

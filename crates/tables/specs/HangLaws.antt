@@ -1,18 +1,15 @@
 -- What one more node does to the rows: one link changes, and one row comes last. Assumes nothing.
-use Prim.Native.Nat.{ℕ, zero, suc, _+_, _*_, _≤_, _<_}
+use Prim.Native.Nat.{ℕ, suc, _+_, _*_}
 use mathlib.Core.Path.{_≡_, refl, sym, ap, _∙_}
-use mathlib.Core.Bool.{Bool, true, false, cond, _&&_, false≢true}
-use mathlib.Core.List.{List, [], _∷_, _++_, append-assoc, append-nil}
+use mathlib.Core.Bool.{true, false, false≢true}
+use mathlib.Core.List.{List, [], _∷_, _++_, append-nil}
 use native.Mathlib.Omega.{arith}
 use native.Mathlib.Nat.{add-zero, zero-add}
-use lib.Dec.{eqb}
-use lib.ListN.{length, set, getD, length-append}
-use borrow.Author.Tests.{ne-eqb, eqb-true, eq-eqb}
-use Rattle.paper.specs.Groups.{same}
-use Rattle.tables.specs.Layout.{Node, node, sameNode, present, letterOf, oneMore, isChild, isSibling, numberOf, rows}
-use Rattle.tables.specs.TestLaws.{by-test, and-left, and-right, and-both, same-eq, eq-same}
-use Rattle.tables.specs.NodeLaws.{same-node-eq, same-node-refl, child-siblings, root-no-child}
-use Rattle.tables.specs.NumberLaws.{number-cong, number-kept, number-found, number-some, number-last, Every, every-append}
+use lib.ListN.{length, set, length-append}
+use Rattle.tables.specs.Layout.{Node, node, sameNode, oneMore, isChild, isSibling, numberOf, rows}
+use Rattle.tables.specs.TestLaws.{by-test}
+use Rattle.tables.specs.NodeLaws.{same-node-eq, same-node-refl, child-siblings}
+use Rattle.tables.specs.NumberLaws.{number-kept, number-found, number-some, number-last, Every, every-append}
 
 module _ (nodes rules : List Node) (new : Node) where
   -- what a node's links are with the new node: as they were

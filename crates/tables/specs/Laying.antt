@@ -1,7 +1,7 @@
 -- The translation on the numbers of a table, one step at a time, as code takes it. What these steps come to is shown in
 -- LayingLaws. Assumes nothing.
 use Prim.Native.Nat.{ℕ, zero, suc, _+_, _*_}
-use mathlib.Core.Bool.{Bool, true, false, cond}
+use mathlib.Core.Bool.{cond}
 use mathlib.Core.List.{List, [], _∷_}
 use lib.Dec.{eqb, leb}
 use lib.ListN.{length, take, getD, set}

@@ -1,28 +1,26 @@
 -- What the steps of the translation come to: the numbers so far are the rows of the nodes so far. Assumes nothing.
-use Prim.Native.Nat.{ℕ, zero, suc, _+_, _*_, _≤_, _<_}
+use Prim.Native.Nat.{ℕ, suc, _+_, _*_, _≤_, _<_}
 use mathlib.Core.Path.{_≡_, refl, sym, ap, subst, _∙_}
-use mathlib.Core.Bool.{Bool, true, false, not, cond, _||_, false≢true}
-use mathlib.Core.List.{List, [], _∷_, _++_, append-assoc}
+use mathlib.Core.Bool.{true, false, not, false≢true}
+use mathlib.Core.List.{List, [], _∷_, _++_}
 use native.Mathlib.Omega.{arith}
 use native.Mathlib.Nat.{zero-add}
-use lib.Dec.{eqb, leb, lit<}
-use lib.ListN.{length, take, drop, set, length-append, length-set, length-take, length-drop, take-append-drop}
-use lib.Seq.{set-append-left, length-take-le, take-at}
-use borrow.Author.Tests.{eqb-true, eqb-false, eq-eqb, ne-eqb, le-leb}
+use lib.Dec.{eqb, lit<}
+use lib.ListN.{length, take, set, length-append}
+use borrow.Author.Tests.{le-leb}
 use Rattle.tables.specs.Layout.{Node, node, sameNode, present, isChild, numberOf, rows}
-use Rattle.tables.specs.TestLaws.{by-test}
 use Rattle.tables.specs.PutLaws.{hung-front, hung-length}
 use Rattle.tables.specs.TailLaws.{or-right}
 use Rattle.tables.specs.NumberLaws.{number-last, Every, every-false, every-append}
-use Rattle.tables.specs.NodeLaws.{root-no-child, same-node-eq, same-node-refl}
-use Rattle.tables.specs.PresentLaws.{Stands, stands, number-missing}
+use Rattle.tables.specs.NodeLaws.{root-no-child, same-node-refl}
+use Rattle.tables.specs.PresentLaws.{stands}
 use Rattle.tables.specs.PathLaws.{letter-missing}
-use Rattle.tables.specs.ChainLaws.{rows-length, child-finds}
+use Rattle.tables.specs.ChainLaws.{child-finds}
 use Rattle.tables.specs.HangLaws.{hang-first, hang-later}
 use Rattle.tables.specs.Walk.{child}
-use Rattle.tables.specs.Laying.{hung, endOf, Laying, grow, enter, note}
+use Rattle.tables.specs.Laying.{hung, endOf, Laying, grow}
 use Rattle.tables.specs.ChainEndLaws.{Ends, no-more, last-child, parent-ends}
-use Rattle.tables.specs.SoundLaws.{Distinct, Sound, absent-every, front-apart, back-apart, sound-node, sound-rule, new-row, present-last}
+use Rattle.tables.specs.SoundLaws.{Distinct, Sound, absent-every, front-apart, back-apart, sound-node, new-row, present-last}
 
 -- One link changes
 

@@ -1,9 +1,9 @@
 -- Document 01, "The table": the nodes in their order of creation, and the four numbers of each. Assumes nothing.
 use Prim.Native.Nat.{ℕ, suc}
-use mathlib.Core.Bool.{Bool, true, false, cond, _&&_, _||_}
+use mathlib.Core.Bool.{Bool, false, cond, _&&_, _||_}
 use mathlib.Core.List.{List, [], _∷_, _++_, map}
 use lib.Dec.{eqb}
-use Rattle.paper.specs.Groups.{Rule, Group, same}
+use Rattle.paper.specs.Groups.{Group, same}
 
 -- A node is known by its group, and by the tail that the letters from it up to the root spell: of the tail ed the letter is
 -- e, and the parent is the node of d.

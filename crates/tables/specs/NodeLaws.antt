@@ -1,15 +1,13 @@
 -- When two nodes are the same, parent and child, or siblings. Assumes nothing.
-use Prim.Native.Nat.{ℕ, suc, _+_, _≤_, _<_}
+use Prim.Native.Nat.{ℕ}
 use mathlib.Core.Path.{_≡_, refl, sym, ap, ap₂, _∙_}
-use mathlib.Core.Bool.{Bool, true, false, cond, _&&_, _||_, false≢true, and-true, and-false}
-use mathlib.Core.List.{List, [], _∷_, _++_}
-use native.Mathlib.Omega.{arith}
+use mathlib.Core.Bool.{true, false, _&&_, false≢true, and-true, and-false}
+use mathlib.Core.List.{List, [], _∷_}
 use lib.Dec.{eqb}
-use lib.ListN.{length}
 use borrow.Author.Tests.{eqb-true, eq-eqb}
 use Rattle.paper.specs.Groups.{same}
-use Rattle.tables.specs.Layout.{Node, node, sameNode, present, letterOf, oneMore, isChild, isSibling, numberOf}
-use Rattle.tables.specs.TestLaws.{by-test, and-left, and-right, and-both, test-ext, same-eq, same-refl}
+use Rattle.tables.specs.Layout.{Node, node, sameNode, letterOf, oneMore, isChild, isSibling}
+use Rattle.tables.specs.TestLaws.{by-test, and-left, and-right, and-both, same-eq, same-refl}
 
 pub same-node-eq : (one other : Node) → sameNode one other ≡ true → one ≡ other
 unfolding sameNode

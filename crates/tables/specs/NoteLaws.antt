@@ -1,15 +1,15 @@
 -- What one more rule does to the numbers of a table: its node holds it, if it held none. Assumes nothing.
-use Prim.Native.Nat.{ℕ, zero, suc, _+_, _*_, _≤_, _<_}
+use Prim.Native.Nat.{ℕ, suc, _+_, _*_, _<_}
 use mathlib.Core.Path.{_≡_, refl, sym, ap, subst, _∙_}
-use mathlib.Core.Bool.{Bool, true, false, cond}
+use mathlib.Core.Bool.{false}
 use mathlib.Core.List.{List, [], _∷_, _++_}
 use native.Mathlib.Omega.{arith}
-use native.Mathlib.Nat.{zero-add, add-zero}
+use native.Mathlib.Nat.{zero-add}
 use lib.Dec.{eqb, lit<}
-use lib.ListN.{length, take, set, getD, length-append, length-set}
+use lib.ListN.{length, take, set, length-append, length-set}
 use lib.Seq.{getD-take, take-set-lt}
 use borrow.Author.Tests.{eqb-true, eqb-false}
-use Rattle.tables.specs.Layout.{Node, node, sameNode, present, numberOf, rows}
+use Rattle.tables.specs.Layout.{Node, node, sameNode, numberOf, rows}
 use Rattle.tables.specs.Walk.{firstRule}
 use Rattle.tables.specs.Laying.{Laying, note}
 use Rattle.tables.specs.TestLaws.{by-test}
@@ -17,7 +17,7 @@ use Rattle.tables.specs.NodeLaws.{same-node-eq, same-node-refl}
 use Rattle.tables.specs.NumberLaws.{number-kept, number-found, number-last, Every, every-false}
 use Rattle.tables.specs.PresentLaws.{Stands, stands}
 use Rattle.tables.specs.ChainLaws.{first-rule-at}
-use Rattle.tables.specs.SoundLaws.{Distinct, Sound, front-apart, back-apart, sound-rule}
+use Rattle.tables.specs.SoundLaws.{Distinct, front-apart, back-apart, sound-rule}
 use Rattle.tables.specs.LayingLaws.{Standing}
 
 module _ (nodes rules : List Node) (end : Node) where

@@ -1,21 +1,19 @@
 -- Paths through the rows of a list of nodes: if a group's nodes are exactly the tails of its endings, a path exists exactly
 -- for these, and the table is faithful to the group. Assumes nothing.
-use Prim.Native.Nat.{ℕ, suc, _+_, _<_}
-use mathlib.Core.Path.{_≡_, refl, sym, ap, _∙_}
-use mathlib.Core.Bool.{Bool, true, false, not, cond, _||_, false≢true, and-false}
-use mathlib.Core.List.{List, [], _∷_, _++_}
-use mathlib.Core.Option.{Option, none, some}
+use Prim.Native.Nat.{ℕ}
+use mathlib.Core.Path.{_≡_, sym, ap, _∙_}
+use mathlib.Core.Bool.{true, false, not, cond, false≢true, and-false}
+use mathlib.Core.List.{List, [], _∷_}
+use mathlib.Core.Option.{none, some}
 use native.Mathlib.Nat.{zero-add}
-use native.Mathlib.Omega.{arith}
 use lib.Dec.{eqb, lit<}
-use lib.ListN.{length}
 use Rattle.paper.specs.Groups.{Rule, same}
 use Rattle.tables.specs.Layout.{Node, node, sameNode, present, numberOf, rows}
 use Rattle.tables.specs.Walk.{firstRule, child, onward, reached, held}
 use Rattle.tables.specs.Faithful.{exists, leads, firstWith, FaithfulGroup}
 use Rattle.tables.specs.TestLaws.{by-test}
 use Rattle.tables.specs.TailLaws.{leads-parent, leads-nowhere}
-use Rattle.tables.specs.PresentLaws.{number-missing, Stands, stands}
+use Rattle.tables.specs.PresentLaws.{number-missing, stands}
 use Rattle.tables.specs.ChainLaws.{child-finds, first-rule-at}
 
 -- a tail with a letter is not a root's

@@ -1,14 +1,14 @@
 -- Where a node stands in a list of nodes. Assumes nothing.
 use Prim.Native.Nat.{ℕ, suc, _+_, _<_}
-use mathlib.Core.Path.{_≡_, refl, sym, ap, _∙_}
-use mathlib.Core.Bool.{Bool, true, false, not, cond, _||_, false≢true, or-assoc}
+use mathlib.Core.Path.{_≡_, refl, ap, _∙_}
+use mathlib.Core.Bool.{true, not, _||_, false≢true, or-assoc}
 use mathlib.Core.List.{List, [], _∷_, _++_}
 use native.Mathlib.Omega.{arith}
 use native.Mathlib.Nat.{add-zero}
 use lib.Dec.{eqb}
 use lib.ListN.{length}
 use borrow.Author.Tests.{ne-eqb}
-use Rattle.tables.specs.Layout.{Node, node, sameNode, present, numberOf}
+use Rattle.tables.specs.Layout.{Node, sameNode, present, numberOf}
 use Rattle.tables.specs.TestLaws.{by-test}
 use Rattle.tables.specs.NodeLaws.{same-node-eq}
 

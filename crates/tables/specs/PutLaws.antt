@@ -1,9 +1,8 @@
 -- Storing four numbers behind those of a table. Assumes nothing.
-use Prim.Native.Nat.{ℕ, zero, suc, _+_, _*_, _≤_, _<_}
+use Prim.Native.Nat.{ℕ, suc, _+_, _*_, _≤_, _<_}
 use mathlib.Core.Path.{_≡_, refl, sym, ap, _∙_}
 use mathlib.Core.List.{List, [], _∷_, _++_, append-assoc}
 use native.Mathlib.Omega.{arith}
-use native.Mathlib.Nat.{zero-add}
 use lib.ListN.{length, take, drop, set, length-append, length-set, length-drop, take-append-drop}
 use lib.Seq.{set-append-left, length-take-le, take-at}
 use Rattle.tables.specs.Laying.{hung}

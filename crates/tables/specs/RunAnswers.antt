@@ -1,10 +1,10 @@
 -- Document 01, "Numbers returned": what the run of a table on a word answers, and what it leaves in the word's place.
 -- Assumes nothing.
 use Prim.Native.Nat.{ℕ, _*_}
-use mathlib.Core.Path.{_≡_, refl, sym, ap, _∙_}
-use mathlib.Core.Bool.{Bool, true, false, cond}
-use mathlib.Core.List.{List, [], _∷_, _++_}
-use lib.ListN.{length, take, drop}
+use mathlib.Core.Path.{_≡_}
+use mathlib.Core.Bool.{Bool, true, cond}
+use mathlib.Core.List.{List}
+use lib.ListN.{take, drop}
 use lib.Seq.{take-at}
 use Rattle.paper.specs.Groups.{Group, same}
 use Rattle.paper.specs.Words.{Outcome, refused, wordOutcome, readWord, outcome, stem}

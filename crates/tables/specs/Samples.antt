@@ -1,8 +1,6 @@
 -- Document 01's two examples of a table, and the length of the shipped sheet's. Assumes nothing.
-use Prim.Native.Nat.{ℕ}
 use mathlib.Core.Path.{_≡_, refl}
-use mathlib.Core.Bool.{Bool, true, false, cond, not, _&&_, _||_}
-use mathlib.Core.List.{List, [], _∷_, _++_, map}
+use mathlib.Core.List.{List, [], _∷_}
 use lib.ListN.{length}
 use Rattle.paper.specs.Letters.{letters}
 use Rattle.paper.specs.Groups.{Group, always, same}
@@ -21,7 +19,6 @@ use Rattle.paper.specs.Shipped.{
   group-5b,
   shipped,
 }
-use Rattle.sheets.specs.Nodes.{tails, tailsOf, member, distinct, nodeCount}
 use Rattle.tables.specs.Layout.{
   sameNode,
   present,

@@ -1,18 +1,18 @@
 -- A group's nodes and rules among those of the whole sheet: the other groups have none of them. Assumes nothing.
-use Prim.Native.Nat.{ℕ, suc, _+_, _≤_, _<_}
-use mathlib.Core.Path.{_≡_, refl, sym, ap, ap₂, _∙_}
-use mathlib.Core.Bool.{Bool, true, false, not, cond, _&&_, _||_, false≢true, or-assoc, or-false, and-or-distrib-left, and-false}
-use mathlib.Core.List.{List, [], _∷_, _++_, map, append-assoc}
+use Prim.Native.Nat.{ℕ, suc, _+_, _<_}
+use mathlib.Core.Path.{_≡_, refl, sym, _∙_}
+use mathlib.Core.Bool.{false, _&&_, _||_, or-assoc, and-or-distrib-left, and-false}
+use mathlib.Core.List.{List, [], _∷_, _++_, map}
 use native.Mathlib.Nat.{add-zero}
 use native.Mathlib.Omega.{arith}
 use lib.Dec.{eqb}
 use lib.ListN.{length}
 use borrow.Author.Tests.{ne-eqb, eq-eqb}
-use Rattle.paper.specs.Groups.{Rule, Group, same}
+use Rattle.paper.specs.Groups.{Rule, Group}
 use Rattle.sheets.specs.Nodes.{tails, tailsOf, member}
-use Rattle.tables.specs.Layout.{Node, node, sameNode, present, roots, ends, numberOf}
+use Rattle.tables.specs.Layout.{Node, node, sameNode, ends, numberOf}
 use Rattle.tables.specs.Faithful.{firstWith}
-use Rattle.tables.specs.TestLaws.{by-test, same-sym}
+use Rattle.tables.specs.TestLaws.{same-sym}
 use Rattle.tables.specs.TailLaws.{member-append}
 use Rattle.tables.specs.GrownLaws.{inWays, present-way}
 

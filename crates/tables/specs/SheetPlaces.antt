@@ -1,24 +1,23 @@
 -- Going through an accepted sheet record by record: what the rest of it holds where a record starts. Assumes nothing.
-use Prim.Native.Nat.{ℕ, zero, suc, _+_, _-_, _≤_, _<_}
+use Prim.Native.Nat.{ℕ, zero, suc, _+_, _≤_, _<_}
 use mathlib.Core.Path.{_≡_, refl, sym, ap, _∙_}
-use mathlib.Core.Bool.{Bool, true, false, false≢true}
-use mathlib.Core.List.{List, [], _∷_, _++_}
+use mathlib.Core.Bool.{true, false, false≢true}
+use mathlib.Core.List.{List, [], _∷_}
 use native.Mathlib.Numerals.{add-one}
 use native.Mathlib.Omega.{arith}
 use lib.Dec.{ltb}
 use borrow.Author.Tests.{ltb-true, ltb-false}
-use lib.ListN.{length, take, drop, getD, length-drop, length-take}
+use lib.ListN.{length, take, drop, getD, length-drop}
 use lib.Seq.{drop-drop}
 use Rattle.paper.specs.Groups.{Rule, Gate, Group}
-use Rattle.sheets.specs.Records.{bodyLength, body, after, gate, rule, ending, cut, misplacedGroup, misplacedRule, faultyAlone, faulty}
-use Rattle.sheets.specs.Sheets.{Rest, faulty-at, holding, ruleThen, groupThen, readRest, Sheet, refused, accepted, whole, readSheet}
-use Rattle.sheets.specs.Bytes.{recordOf, ruleBody}
+use Rattle.sheets.specs.Records.{bodyLength, body, after, gate, rule, ending, cut, faultyAlone, faulty}
+use Rattle.sheets.specs.Sheets.{Rest, faulty-at, holding, ruleThen, groupThen, readRest, accepted, whole, readSheet}
 use Rattle.sheets.specs.ByteLaws.{long, fitting, length-body, length-after}
 use Rattle.sheets.specs.RecordLaws.{GroupHere, RuleHere, EndHere}
-use Rattle.sheets.specs.RuleLaws.{Sound, sound, group-length, length-ending, length-replacement}
+use Rattle.sheets.specs.RuleLaws.{sound, group-length, length-ending, length-replacement}
 use Rattle.sheets.specs.SheetLaws.{fault-alone, group-fault, rule-fault, fault-step, group-step, rule-step, end-step, enough, faulty-empty}
 use Rattle.sheets.specs.Earlier.{endingIn, ending-in}
-use Rattle.sheets.specs.WriteBack.{Written, WrittenAs, not-read, is-read, rest-written, rule-record, few-groups, few-rules}
+use Rattle.sheets.specs.WriteBack.{WrittenAs, not-read, is-read, rest-written, rule-record, few-groups, few-rules}
 use Rattle.tables.specs.TestLaws.{by-test}
 
 -- the rest of the sheet from a place on, after so many groups and rules, holds rules up to the next group, and groups

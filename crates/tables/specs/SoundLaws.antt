@@ -1,14 +1,13 @@
 -- What the nodes so far and the rules so far always are: no node comes twice, each has its parent, and each rule its node.
 -- Assumes nothing.
-use Prim.Native.Nat.{ℕ, zero, suc, _+_, _*_, _≤_, _<_}
-use mathlib.Core.Path.{_≡_, refl, sym, ap, _∙_}
-use mathlib.Core.Bool.{Bool, true, false, cond, _||_, false≢true, or-false}
+use Prim.Native.Nat.{ℕ}
+use mathlib.Core.Path.{_≡_, refl, sym, _∙_}
+use mathlib.Core.Bool.{true, false, _||_, false≢true, or-false}
 use mathlib.Core.List.{List, [], _∷_, _++_}
-use native.Mathlib.Omega.{arith}
 use lib.ListN.{length}
 use Rattle.tables.specs.Layout.{Node, node, sameNode, present, isChild, letterOf, numberOf, rows}
 use Rattle.tables.specs.TestLaws.{by-test, test-ext}
-use Rattle.tables.specs.TailLaws.{or-left, or-right, or-cases, or-none}
+use Rattle.tables.specs.TailLaws.{or-left, or-right, or-cases}
 use Rattle.tables.specs.NumberLaws.{number-kept, number-nowhere, Every, every-last}
 use Rattle.tables.specs.NodeLaws.{same-node-eq, same-node-refl, root-no-child}
 use Rattle.tables.specs.PresentLaws.{present-append}

@@ -1,14 +1,13 @@
 -- Laws of the tails of endings. Assumes nothing.
-use Prim.Native.Nat.{ℕ, suc, _<_}
-use mathlib.Core.Path.{_≡_, refl, sym, ap, _∙_}
-use mathlib.Core.Bool.{Bool, true, false, cond, _||_, false≢true, or-assoc, or-true}
+use Prim.Native.Nat.{ℕ, suc}
+use mathlib.Core.Path.{_≡_, refl, sym}
+use mathlib.Core.Bool.{Bool, true, false, _||_, false≢true, or-assoc, or-true}
 use mathlib.Core.List.{List, [], _∷_, _++_}
-use native.Mathlib.Omega.{arith}
 use Rattle.paper.specs.Groups.{Rule, same}
 use Rattle.sheets.specs.Nodes.{tails, tailsOf, member}
 use Rattle.tables.specs.Layout.{numberOf}
 use Rattle.tables.specs.Faithful.{leads, firstWith}
-use Rattle.tables.specs.TestLaws.{by-test, same-eq, same-refl, and-right}
+use Rattle.tables.specs.TestLaws.{by-test, same-eq, same-refl}
 
 pub or-left : (a b : Bool) → a ≡ true → (a || b) ≡ true
 or-left a b e = rw e

@@ -1,22 +1,18 @@
 -- What a translation answers, case by case. Assumes nothing.
 use Prim.Native.Nat.{ℕ, _*_, _≤_, _<_}
-use mathlib.Core.Path.{_≡_, refl, sym, ap, _∙_}
-use mathlib.Core.Bool.{Bool, true, false, cond}
+use mathlib.Core.Path.{_≡_, refl, sym, _∙_}
 use mathlib.Core.List.{List, [], _∷_, _++_}
 use native.Mathlib.Omega.{arith}
-use lib.Dec.{ltb}
 use lib.ListN.{length, drop}
 use borrow.Author.Tests.{lt-ltb, le-ltb}
 use Rattle.paper.specs.Groups.{Group}
 use Rattle.sheets.specs.Sheets.{Sheet, refused, accepted, readSheet}
 use Rattle.sheets.specs.Nodes.{nodeCount}
 use Rattle.sheets.specs.Answers.{answer, checked}
-use Rattle.sheets.specs.declared.Checked.{Checked}
 use Rattle.sheets.specs.declared.Checked.the-variants.{Accepted as Counted, Refused as Faulty}
 use Rattle.tables.specs.Layout.{roots, ends, grown, nodesOf, rows, tableOf}
-use Rattle.tables.specs.Answers.{Translation, laidOut, translationOf, translation, groupsIn, groupsOf}
+use Rattle.tables.specs.Answers.{laidOut, translationOf, translation, groupsIn, groupsOf}
 use Rattle.tables.specs.GoingLaws.{Accepted}
-use Rattle.tables.specs.declared.Translated.{Translated}
 use Rattle.tables.specs.declared.Translated.the-variants.{Nodes, Refused, Short}
 
 accepted-by : (found : Sheet) (nodes : ℕ) → answer found ≡ Counted nodes → (found ≡ accepted (groupsIn found)) × (nodes ≡ nodeCount (groupsIn found))

@@ -1,20 +1,19 @@
 -- The table that groups are laid out in is faithful to them. Assumes nothing.
-use Prim.Native.Nat.{ℕ, suc, _+_, _≤_, _<_}
+use Prim.Native.Nat.{ℕ, suc, _+_, _≤_}
 use mathlib.Core.Path.{_≡_, refl, sym, subst, _∙_}
-use mathlib.Core.Bool.{Bool, true, false, cond, _&&_, _||_, or-false}
+use mathlib.Core.Bool.{true, false, or-false}
 use mathlib.Core.List.{List, [], _∷_, _++_, map}
 use native.Mathlib.Nat.{le-refl}
 use native.Mathlib.Omega.{arith}
 use lib.Dec.{eqb}
 use lib.ListN.{length}
 use borrow.Author.Tests.{ne-eqb, eq-eqb}
-use Rattle.paper.specs.Groups.{Rule, Group, same}
-use Rattle.sheets.specs.Nodes.{tailsOf, member}
-use Rattle.tables.specs.Layout.{Node, node, sameNode, present, roots, ends, grown, nodesOf, numberOf, rows, tableOf}
-use Rattle.tables.specs.Faithful.{leads, firstWith, FaithfulGroup, FaithfulFrom, Faithful}
+use Rattle.paper.specs.Groups.{Group}
+use Rattle.tables.specs.Layout.{Node, node, sameNode, present, roots, ends, nodesOf, numberOf, rows, tableOf}
+use Rattle.tables.specs.Faithful.{leads, firstWith, FaithfulFrom, Faithful}
 use Rattle.tables.specs.NodeLaws.{same-node-refl}
 use Rattle.tables.specs.PathLaws.{not-root, group-faithful}
-use Rattle.tables.specs.GrownLaws.{inWays, present-grown, Extended, grown-extends}
+use Rattle.tables.specs.GrownLaws.{inWays, present-grown, grown-extends}
 use Rattle.tables.specs.SheetLaws.{other-group, number-past, number-beyond, number-own, ways-append, ways-group, ways-beyond}
 
 -- What the nodes and rules of a whole sheet say of the groups from root `root` on, whose rules count from `number`: what stands

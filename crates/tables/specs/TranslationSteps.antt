@@ -1,16 +1,15 @@
 -- The translation of a whole sheet, rule by rule. Assumes nothing.
-use Prim.Native.Nat.{ℕ, zero, suc, _+_, _*_, _≤_, _<_}
+use Prim.Native.Nat.{ℕ, suc, _+_, _*_, _≤_, _<_}
 use mathlib.Core.Path.{_≡_, refl, sym, ap, subst, _∙_}
-use mathlib.Core.Bool.{Bool, true, false, cond, _||_, false≢true}
+use mathlib.Core.Bool.{true, false, false≢true}
 use mathlib.Core.List.{List, [], _∷_, _++_, append-assoc, append-nil}
-use native.Mathlib.Nat.{zero-add, add-zero}
 use native.Mathlib.Omega.{arith}
-use lib.Dec.{eqb, lit<}
-use lib.ListN.{length, take, replicate, length-append, replicate-append-replicate}
+use lib.Dec.{eqb}
+use lib.ListN.{length, take, replicate, length-append}
 use lib.Seq.{take-all}
 use borrow.Author.Tests.{ne-eqb, eqb-true, eqb-false}
 use Rattle.paper.specs.Letters.{inward}
-use Rattle.paper.specs.Groups.{Rule, Group, same}
+use Rattle.paper.specs.Groups.{Group}
 use Rattle.sheets.specs.Nodes.{nodeCount}
 use Rattle.tables.specs.Layout.{Node, node, sameNode, present, roots, ends, way, added, grown, nodesOf, letterOf, isChild, isSibling, numberOf, rows, tableOf}
 use Rattle.tables.specs.Laying.{Laying, laying, enter, note}
@@ -19,7 +18,7 @@ use Rattle.tables.specs.TailLaws.{or-left}
 use Rattle.tables.specs.NumberLaws.{number-nowhere, Every}
 use Rattle.tables.specs.NodeLaws.{same-node-refl, root-no-child}
 use Rattle.tables.specs.PresentLaws.{present-append}
-use Rattle.tables.specs.GrownLaws.{Extended, added-extends, grown-extends}
+use Rattle.tables.specs.GrownLaws.{added-extends, grown-extends}
 use Rattle.tables.specs.SheetLaws.{other-group}
 use Rattle.tables.specs.TranslationFaithful.{roots-no-tail}
 use Rattle.tables.specs.CountLaws.{nodes-length, roots-length}

@@ -1,17 +1,17 @@
 -- The walk one step at a time, as a loop takes it. Assumes nothing.
 use Prim.Native.Nat.{ℕ, zero, suc, _+_, _*_, _-_, _<_, _≤_}
 use mathlib.Core.Path.{_≡_, refl, sym, ap, _∙_}
-use mathlib.Core.Bool.{Bool, true, false, cond}
-use mathlib.Core.List.{List, [], _∷_, _++_, reverse, reverse-append}
-use mathlib.Core.Option.{Option, none, some}
+use mathlib.Core.Bool.{cond}
+use mathlib.Core.List.{List, [], _∷_, _++_, reverse-append}
+use mathlib.Core.Option.{none, some}
 use native.Mathlib.Omega.{arith}
 use lib.Dec.{eqb}
 use lib.ListN.{length, take, drop, getD, set, take-append-drop}
 use lib.Seq.{take-suc, drop-cons, drop-length}
-use borrow.Author.Tests.{eqb-true, eq-eqb, ne-eqb, le-leb, lt-leb}
+use borrow.Author.Tests.{eq-eqb, ne-eqb, le-leb, lt-leb}
 use native.Mathlib.Numerals.{add-one}
 use Rattle.paper.specs.Letters.{inward}
-use Rattle.tables.specs.Walk.{letter, firstChild, nextSibling, firstRule, inChain, child, deepest, onward, reached, held}
+use Rattle.tables.specs.Walk.{letter, nextSibling, firstRule, inChain, child, deepest, onward, reached, held}
 use Rattle.tables.specs.Laying.{chainEnd, endOf, hung, Laying, laying, grow, enter, note}
 use Rattle.tables.specs.TestLaws.{by-test}
 

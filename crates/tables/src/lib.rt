@@ -3,8 +3,8 @@ ghost use mathlib.Core.Path.{_≡_};
 ghost use Rattle.tables.specs.Answers.{translation};
 
 mod layings;
-mod sheet;
 mod runs;
+mod sheet;
 pub mod shipped;
 mod walks;
 

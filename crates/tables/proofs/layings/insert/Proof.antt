@@ -5,9 +5,8 @@ use mathlib.Core.Path.{_≡_, refl, sym, ap, _∙_}
 use native.Mathlib.Omega.{arith}
 use lib.ListN.{length, take}
 use lib.Seq.{take-length}
-use borrow.Author.Needs.{needs}
 use Rattle.paper.specs.Letters.{inward}
-use Rattle.tables.specs.Laying.{Laying, laying, enter, note}
+use Rattle.tables.specs.Laying.{Laying, laying, enter}
 use Rattle.tables.specs.WalkSteps.{enter-turn, enter-over, note-new, note-kept}
 use Rattle.tables.proofs.layings.insert.Statement.{statement}
 use Rattle.tables.proofs.layings.insert.Tie as tie

@@ -1,6 +1,6 @@
 -- The loop's invariant: the numbers passed are 0, and the others are as they came. Assumes nothing.
 use Prim.Native.Nat.{ℕ, _≤_, _-_}
-use mathlib.Core.Path.{_≡_, refl, sym, _∙_}
+use mathlib.Core.Path.{_≡_, refl, _∙_}
 use mathlib.Core.List.{List, _++_, append-nil}
 use lib.Seq.{drop-length}
 use native.Mathlib.Omega.{arith}

@@ -1,10 +1,10 @@
 -- The loop's invariant: the groups so far, and those that the rest of the sheet holds, are all. Assumes nothing.
 use Prim.Native.Nat.{_+_, _≤_, _<_, _-_}
-use mathlib.Core.Path.{_≡_, refl, sym, _∙_}
+use mathlib.Core.Path.{sym, _∙_}
 use native.Mathlib.Omega.{arith}
-use lib.ListN.{length, drop}
+use lib.ListN.{length}
 use borrow.Author.Needs.{needs}
-use Rattle.sheets.specs.RecordLaws.{GroupHere, RuleHere, EndHere, group-here, rule-here, end-here, fault-here}
+use Rattle.sheets.specs.RecordLaws.{group-here, rule-here, end-here, fault-here}
 use Rattle.tables.specs.SheetPlaces.{never-over, never-alone}
 use Rattle.tables.specs.GoingLaws.{Counting, counting-start, counting-group, counting-rule, counting-end}
 use Rattle.tables.proofs.sheet.group_count.Statement.{statement}

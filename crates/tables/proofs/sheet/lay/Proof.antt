@@ -1,11 +1,11 @@
 -- The loop's invariant: the numbers so far are those of the rules so far, and the rest of the sheet holds the rules that are
 -- left. Assumes nothing.
 use Prim.Native.Nat.{_+_, _*_, _-_, _≤_, _<_}
-use mathlib.Core.Path.{_≡_, refl, sym, _∙_}
+use mathlib.Core.Path.{_≡_, sym, _∙_}
 use native.Mathlib.Omega.{arith}
 use lib.ListN.{length, drop}
 use borrow.Author.Needs.{needs}
-use Rattle.sheets.specs.RecordLaws.{GroupHere, RuleHere, EndHere, group-here, rule-here, end-here, fault-here}
+use Rattle.sheets.specs.RecordLaws.{RuleHere, group-here, rule-here, end-here, fault-here}
 use Rattle.tables.specs.Answers.{groupsOf}
 use Rattle.tables.specs.SheetPlaces.{never-over, never-alone}
 use Rattle.tables.specs.GoingLaws.{

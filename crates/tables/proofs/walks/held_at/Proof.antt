@@ -5,7 +5,7 @@ use mathlib.Core.Option.{some}
 use native.Mathlib.Omega.{arith}
 use borrow.Author.Needs.{needs}
 use lib.ListN.{length, drop}
-use Rattle.tables.specs.Walk.{reached, held}
+use Rattle.tables.specs.Walk.{reached}
 use Rattle.tables.specs.WalkSteps.{reached-root, reached-on, reached-end, held-nowhere, held-reached}
 use Rattle.tables.proofs.walks.held_at.Statement.{statement}
 use Rattle.tables.proofs.walks.held_at.Tie as tie
