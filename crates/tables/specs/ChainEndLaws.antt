@@ -13,7 +13,7 @@ use Rattle.tables.specs.NumberLaws.{number-cong, Every}
 use Rattle.tables.specs.NodeLaws.{child-siblings, root-no-child}
 use Rattle.tables.specs.ChainLaws.{rows-length, first-child-at, next-sibling-at}
 use Rattle.tables.specs.Laying.{chainEnd, endOf}
-use Rattle.tables.specs.WalkSteps.{end-here}
+use Rattle.tables.specs.LayingSteps.{end-here}
 
 pub data Ends (nodes : List Node) (parent : Node) (later : List Node) (link place : ℕ) : Type 0 where
   no-more : Every (λ one. isChild parent one ≡ false) later → place ≡ link → Ends nodes parent later link place

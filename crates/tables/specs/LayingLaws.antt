@@ -8,9 +8,9 @@ use native.Mathlib.Nat.{zero-add}
 use lib.Dec.{eqb, lit<}
 use lib.ListN.{length, take, set, length-append}
 use borrow.Author.Tests.{le-leb}
+use Rattle.tables.specs.TestLaws.{or-right}
 use Rattle.tables.specs.Layout.{Node, node, sameNode, present, isChild, numberOf, rows}
 use Rattle.tables.specs.PutLaws.{hung-front, hung-length}
-use Rattle.tables.specs.TailLaws.{or-right}
 use Rattle.tables.specs.NumberLaws.{number-last, Every, every-false, every-append}
 use Rattle.tables.specs.NodeLaws.{root-no-child, same-node-refl}
 use Rattle.tables.specs.PresentLaws.{stands}

@@ -1,38 +1,45 @@
--- Document 01, "The table". First the definitions: the layout and the walk; then what is shown of them.
+-- Document 01, "The table". First the definitions, in 01's order: the layout, the walk, and what a translation and a run
+-- answer.
 pub mod Layout
-pub mod Samples
 pub mod Walk
+pub mod Answers
 pub mod Faithful
+-- Then demand 3, and what it rests on: a faithful table walks as its groups are read, and the translation is faithful.
+pub mod Demand3
+pub mod FaithfulWalks
+pub mod TranslationFaithful
+pub mod RunAnswers
+pub mod Samples
+-- Laws of tests, numbers, endings and tails
 pub mod TestLaws
 pub mod NumberLaws
 pub mod ChosenLaws
-pub mod DeepestLaws
-pub mod FaithfulWalks
-pub mod NodeLaws
-pub mod ChainLaws
-pub mod PresentLaws
 pub mod TailLaws
+pub mod DistinctLaws
+-- Laws of the walk
+pub mod DeepestLaws
+pub mod PickLaws
+-- Laws of the layout: nodes, chains, paths, and how many nodes there are
+pub mod NodeLaws
+pub mod PresentLaws
+pub mod ChainLaws
 pub mod PathLaws
 pub mod GrownLaws
 pub mod SheetLaws
-pub mod TranslationFaithful
-pub mod Demand3
-pub mod DistinctLaws
 pub mod CountLaws
-pub mod HangLaws
+-- The translation step by step, on the numbers of a table and through a sheet
 pub mod Laying
 pub mod WalkSteps
+pub mod LayingSteps
+pub mod HangLaws
 pub mod ChainEndLaws
 pub mod SoundLaws
-pub mod LayingLaws
 pub mod PutLaws
+pub mod LayingLaws
 pub mod EnterLaws
 pub mod NoteLaws
-pub mod Answers
-pub mod SheetPlaces
 pub mod TranslationSteps
+pub mod SheetPlaces
 pub mod GoingLaws
 pub mod TranslationAnswers
-pub mod RunAnswers
-pub mod PickLaws
 pub mod RunSteps

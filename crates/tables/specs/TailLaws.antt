@@ -1,27 +1,13 @@
 -- Laws of the tails of endings. Assumes nothing.
 use Prim.Native.Nat.{ℕ, suc}
 use mathlib.Core.Path.{_≡_, refl, sym}
-use mathlib.Core.Bool.{Bool, true, false, _||_, false≢true, or-assoc, or-true}
+use mathlib.Core.Bool.{true, false, _||_, false≢true, or-assoc}
 use mathlib.Core.List.{List, [], _∷_, _++_}
 use Rattle.paper.specs.Groups.{Rule, same}
 use Rattle.sheets.specs.Nodes.{tails, tailsOf, member}
 use Rattle.tables.specs.Layout.{numberOf}
 use Rattle.tables.specs.Faithful.{leads, firstWith}
-use Rattle.tables.specs.TestLaws.{by-test, same-eq, same-refl}
-
-pub or-left : (a b : Bool) → a ≡ true → (a || b) ≡ true
-or-left a b e = rw e
-
-pub or-right : (a b : Bool) → b ≡ true → (a || b) ≡ true
-or-right a b e = rw (e, or-true)
-
-pub or-none : (a b : Bool) → (a || b) ≡ false → b ≡ false
-or-none true b e = absurd (false≢true (sym e))
-or-none false b e = e
-
-pub or-cases {ℓ} : {C : Type ℓ} (a b : Bool) → (a || b) ≡ true → (a ≡ true → C) → (b ≡ true → C) → C
-or-cases true b e f g = f refl
-or-cases false b e f g = g e
+use Rattle.tables.specs.TestLaws.{by-test, same-eq, same-refl, or-left, or-right, or-none, or-cases}
 
 pub member-append : (tail : List ℕ) (left right : List (List ℕ)) → member tail (left ++ right) ≡ (member tail left || member tail right)
 unfolding member

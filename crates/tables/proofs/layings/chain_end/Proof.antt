@@ -4,7 +4,7 @@ use mathlib.Core.Path.{_≡_, refl, sym, _∙_}
 use native.Mathlib.Omega.{arith}
 use borrow.Author.Needs.{needs}
 use Rattle.tables.specs.Laying.{chainEnd, endOf}
-use Rattle.tables.specs.WalkSteps.{end-here, end-next, end-over}
+use Rattle.tables.specs.LayingSteps.{end-here, end-next, end-over}
 use Rattle.tables.proofs.layings.chain_end.Statement.{statement}
 use Rattle.tables.proofs.layings.chain_end.Tie as tie
 

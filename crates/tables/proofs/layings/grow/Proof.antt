@@ -3,7 +3,7 @@ use Prim.Native.Nat.{_*_}
 use mathlib.Core.Path.{sym}
 use native.Mathlib.Omega.{arith}
 use lib.Seq.{length-take-le}
-use Rattle.tables.specs.WalkSteps.{grow-found, grow-full, grow-new}
+use Rattle.tables.specs.LayingSteps.{grow-found, grow-full, grow-new}
 use borrow.Author.Needs.{needs}
 use Rattle.tables.proofs.layings.grow.Statement.{statement}
 use Rattle.tables.proofs.layings.grow.Tie as tie

@@ -7,7 +7,7 @@ use lib.ListN.{length, take}
 use lib.Seq.{take-length}
 use Rattle.paper.specs.Letters.{inward}
 use Rattle.tables.specs.Laying.{Laying, laying, enter}
-use Rattle.tables.specs.WalkSteps.{enter-turn, enter-over, note-new, note-kept}
+use Rattle.tables.specs.LayingSteps.{enter-turn, enter-over, note-new, note-kept}
 use Rattle.tables.proofs.layings.insert.Statement.{statement}
 use Rattle.tables.proofs.layings.insert.Tie as tie
 

@@ -3,7 +3,6 @@ use Prim.Native.Nat.{_≤_, _-_}
 use mathlib.Core.Path.{_≡_, refl, sym, _∙_}
 use native.Mathlib.Omega.{arith}
 use lib.ListN.{length, drop}
-use borrow.Author.Needs.{needs}
 use Rattle.paper.specs.Groups.{same}
 use Rattle.tables.specs.RunSteps.{same-long, same-next, same-apart, same-over}
 use Rattle.tables.proofs.runs.same_numbers.Statement.{statement}
