@@ -42,4 +42,6 @@ pub mod TranslationSteps
 pub mod SheetPlaces
 pub mod GoingLaws
 pub mod TranslationAnswers
+pub mod RulePlaces
+pub mod TryLaws
 pub mod RunSteps
