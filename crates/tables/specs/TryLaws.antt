@@ -1,7 +1,8 @@
 -- Trying the rules of a group in sheet order, record by record. Assumes nothing.
 use Prim.Native.Nat.{ℕ, zero, suc, _+_, _-_, _≤_, _<_}
 use mathlib.Core.Path.{_≡_, refl, sym, ap, _∙_}
-use mathlib.Core.Bool.{Bool, true, false, cond, _&&_}
+use mathlib.Core.Bool.{Bool, true, false, cond, _&&_, and-false}
+use borrow.Author.Tests.{lt-leb, le-leb, eq-eqb, ne-eqb}
 use mathlib.Core.List.{List, [], _∷_}
 use mathlib.Core.Option.{Option, none, some}
 use native.Mathlib.Numerals.{add-one}
@@ -124,3 +125,19 @@ module _ (table : List ℕ) (root found : ℕ) (word sheet : List ℕ) (groups s
           more = state .more;
           holds-here = next .holds;
           decides = ap (λ (n : ℕ). picked table root found word n (next .rules-then)) (add-one (rules + 1)) ∙ sym passed ∙ state .decides }
+
+-- One rule, test by test
+
+module _ (table : List ℕ) (root found : ℕ) (word : List ℕ) (number condition : ℕ) (s1 : List ℕ) where
+  pub obeys-early : number < found → obeys table root found word number condition s1 ≡ false
+  unfolding obeys
+  obeys-early h = rw (lt-leb found number h)
+
+  pub obeys-other : (there : ℕ) → there ≡ held table (reached table root s1) → (found ≡ there → ⊥) → obeys table root found word number condition s1 ≡ false
+  unfolding obeys
+  obeys-other there e h = rw (← e, ne-eqb found there h, and-false)
+
+  pub obeys-judged : (there : ℕ) (answer : Bool) (part : ℕ) → found ≤ number → there ≡ held table (reached table root s1) → found ≡ there
+      → part ≡ length word - length s1 → answer ≡ holds condition (take part word) → answer ≡ obeys table root found word number condition s1
+  unfolding obeys before
+  obeys-judged there answer part h e f p j = rw (le-leb found number h, ← e, eq-eqb found there f, ← p) j

@@ -1,6 +1,12 @@
 // The run of a table on a word, group by group.
 ghost use mathlib.Core.Path.{_≡_};
+ghost use Prim.Native.Nat.{_+_, _-_, _<_, _≤_};
+ghost use lib.ListN.{length, take, drop};
 ghost use Rattle.paper.specs.Groups.{same};
+ghost use Rattle.tables.specs.TryLaws.{Readable, PickedAs, picked, rulesOf, restAt, obeys as obeysOf};
+use crate::walks::held_at;
+use sheets::reader::draw;
+use sheets::records::Record;
 
 // Whether two tables have the same numbers.
 pub fn same_numbers(one: &[u16], other: &[u16]) -> bool
@@ -17,4 +23,28 @@ pub fn same_numbers(one: &[u16], other: &[u16]) -> bool
         i += 1;
     }
     true
+}
+
+// What is left of a number after another is taken away, or 0.
+fn less(one: usize, other: usize) -> usize
+    ensures { λ r. ⌜ r ≡ one - other ⌝ }
+{
+    if other < one { one - other } else { 0 }
+}
+
+// Whether the rule of this number, whose record stands at `place`, is the one that a walk which found `found` obeys.
+fn obeys(sheet: &[u8], place: usize, condition: u8, ending: usize, number: usize, table: &[u16], root: usize, found: usize, word: &[u8]) -> bool
+    requires { ⌜ (place + 8 + ending ≤ length (now sheet)) × (root < 65536) ⌝ }
+    ensures { λ r. ⌜ r ≡ obeysOf (now (table .entry)) root found (now (word .entry)) number condition (take ending (drop (place + 8) (now (sheet .entry)))) ⌝ }
+{
+    if number < found {
+        return false;
+    }
+    let start = place + 8;
+    let end = start + ending;
+    if found != held_at(table, root, &sheet[start..end]) {
+        return false;
+    }
+    let part = less(word.len(), ending);
+    letters::holds(condition, &word[..part])
 }
