@@ -72,4 +72,5 @@ module _ (sheet : List ℕ) (at c a o s1 s2 : ℕ) (e : recordIn (drop at sheet)
         action-is = rw (same-action, letters-after);
         opens-is = rw same-opens;
         ending-long = sym (here .ending-is);
-        inside = omega (arith, long rest (here .whole), fitting rest (here .whole), length-drop at sheet, length-body rest (here .whole), length-ending (body rest) is, length-replacement (body rest), here .ending-is, here .replacement-is, is .within) }
+        inside = omega (arith, long rest (here .whole), fitting rest (here .whole), length-drop at sheet, length-body rest (here .whole), length-ending (body rest) is, length-replacement (body rest), here .ending-is, here .replacement-is, is .within);
+      }

@@ -124,7 +124,8 @@ module _ (table : List ℕ) (root found : ℕ) (word sheet : List ℕ) (groups s
           list = next .rules-then;
           more = state .more;
           holds-here = next .holds;
-          decides = ap (λ (n : ℕ). picked table root found word n (next .rules-then)) (add-one (rules + 1)) ∙ sym passed ∙ state .decides }
+          decides = ap (λ (n : ℕ). picked table root found word n (next .rules-then)) (add-one (rules + 1)) ∙ sym passed ∙ state .decides;
+        }
 
 -- One rule, test by test
 

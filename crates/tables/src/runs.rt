@@ -33,7 +33,17 @@ fn less(one: usize, other: usize) -> usize
 }
 
 // Whether the rule of this number, whose record stands at `place`, is the one that a walk which found `found` obeys.
-fn obeys(sheet: &[u8], place: usize, condition: u8, ending: usize, number: usize, table: &[u16], root: usize, found: usize, word: &[u8]) -> bool
+fn obeys(
+    sheet: &[u8],
+    place: usize,
+    condition: u8,
+    ending: usize,
+    number: usize,
+    table: &[u16],
+    root: usize,
+    found: usize,
+    word: &[u8],
+) -> bool
     requires { ⌜ (place + 8 + ending ≤ length (now sheet)) × (root < 65536) ⌝ }
     ensures { λ r. ⌜ r ≡ obeysOf (now (table .entry)) root found (now (word .entry)) number condition (take ending (drop (place + 8) (now (sheet .entry)))) ⌝ }
 {
@@ -47,4 +57,82 @@ fn obeys(sheet: &[u8], place: usize, condition: u8, ending: usize, number: usize
     }
     let part = less(word.len(), ending);
     letters::holds(condition, &word[..part])
+}
+
+// A rule that was found in the sheet: the place of its record, or 0 for none, and its numbers.
+struct Found {
+    place: usize,
+    action: u8,
+    opens: u8,
+    ending: usize,
+    replacement: usize,
+}
+
+// No rule.
+fn nothing() -> Found
+    ensures { λ r. ⌜ r .place ≡ 0 ⌝ }
+{
+    Found {
+        place: 0,
+        action: 0,
+        opens: 0,
+        ending: 0,
+        replacement: 0,
+    }
+}
+
+// The rule that a walk which found `found` obeys, of those that stand from `at` up to the next group.
+fn tried_at(
+    sheet: &[u8],
+    at: usize,
+    groups: usize,
+    rules: usize,
+    table: &[u16],
+    root: usize,
+    found: usize,
+    word: &[u8],
+) -> Found
+    requires { ⌜ Readable (now sheet) at groups rules × ((0 < at) × ((at ≤ length (now sheet)) × ((rules ≤ 128) × (root < 65536)))) ⌝ }
+    ensures { λ r. ⌜ PickedAs (now (sheet .entry)) (picked (now (table .entry)) root found (now (word .entry)) (rules + 1) (rulesOf (restAt (now (sheet .entry)) at groups rules))) (r .place) (r .action) (r .opens) (r .ending) (r .replacement) ⌝ }
+{
+    let mut place = at;
+    let mut number = rules;
+    while place < sheet.len() {
+        let record = draw(sheet, place);
+        match record {
+            Record::Group(_) => return nothing(),
+            Record::Rule {
+                condition,
+                action,
+                opens,
+                ending,
+                replacement,
+            } => {
+                number += 1;
+                if obeys(
+                    sheet,
+                    place,
+                    condition,
+                    ending,
+                    number,
+                    table,
+                    root,
+                    found,
+                    word,
+                ) {
+                    return Found {
+                        place,
+                        action,
+                        opens,
+                        ending,
+                        replacement,
+                    };
+                }
+                place += 8 + ending + replacement;
+            }
+            Record::End => return nothing(),
+            Record::Faulty => return nothing(),
+        }
+    }
+    nothing()
 }

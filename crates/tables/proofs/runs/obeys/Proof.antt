@@ -8,64 +8,47 @@ use Rattle.tables.specs.TryLaws.{obeys-early, obeys-other, obeys-judged}
 use borrow.Author.Needs.{needs}
 use Rattle.tables.proofs.runs.obeys.Statement.{statement}
 use Rattle.tables.proofs.runs.obeys.Tie as tie
-use Rattle.tables.proofs.runs.obeys.Reads as reads
-use Rattle.tables.proofs.runs.obeys.Lts as lts
-use Rattle.letters.proofs.holds.Reads as holds-reads
-use Rattle.tables.proofs.runs.less.Reads as less-reads
-use Rattle.tables.proofs.walks.held_at.Reads as held-at-reads
 
--- src/runs.rt:41:9
 returns : tie.Need-returns
 returns c =
     let a = c .before .before .before .before .args in
     sym (obeys-early (a .table .now) (a .root) (a .found) (a .word .now) (a .number) (a .condition) _ (c .if1 .taken))
 
--- src/runs.rt:43:17
 add-start : tie.Need-add-start
 add-start c = search needs
 
--- src/runs.rt:44:15
 add-end : tie.Need-add-end
 add-end c = search needs
 
--- src/runs.rt:45:38
 sub-held-at : tie.Need-sub-held-at
 sub-held-at c = search needs
 
--- src/runs.rt:45:38
 part-held-at-start : tie.Need-part-held-at-start
 part-held-at-start c = search needs
 
--- src/runs.rt:45:38
 part-held-at-end : tie.Need-part-held-at-end
 part-held-at-end c = search needs
 
--- src/runs.rt:45:17
 held-at-requires : tie.Need-held-at-requires
 held-at-requires c κs = search needs
 
--- src/runs.rt:46:9
 returns-2 : tie.Need-returns-2
 returns-2 c =
     let a = c .before .before .before .before .before .before .before .args in
     let size : a .place + 8 + a .ending - (a .place + 8) ≡ a .ending = omega arith in
     sym (obeys-other (a .table .now) (a .root) (a .found) (a .word .now) (a .number) (a .condition) _ _ (rw size at (c .before .held-at .ensures)) (c .if2 .taken))
 
--- src/runs.rt:48:9
 less-requires : tie.Need-less-requires
 less-requires c κs = search needs
 
--- src/runs.rt:49:31
 slice-aggregate-holds : tie.Need-slice-aggregate-holds
 slice-aggregate-holds c =
     let part = c .before .less .ensures in
     sym (length-take-le (c .before .less .result) (c .before .before .before .before .before .before .before .before .before .args .word .now) (omega arith))
 
--- src/runs.rt:49:5
 holds-requires : tie.Need-holds-requires
 holds-requires c κs = search needs
 
--- src/runs.rt:36:1
 returns-3 : tie.Need-returns-3
 returns-3 c =
     let a = c .before .before .before .before .before .before .before .before .before .before .args in
