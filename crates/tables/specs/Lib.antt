@@ -44,4 +44,5 @@ pub mod GoingLaws
 pub mod TranslationAnswers
 pub mod RulePlaces
 pub mod TryLaws
+pub mod StepLaws
 pub mod RunSteps
