@@ -80,7 +80,8 @@ module _ (table : List ℕ) (root number : ℕ) (place : List ℕ) (size : ℕ) 
         rw (given, letters-left)
         (record {
           fits-is = sym (le-leb (length (take (part - 1) place)) (length place) (omega (arith, length-take-le (part - 1) place (omega arith))));
-          letters = λ t. (refl, omega arith, refl) })
+          letters = λ t. (refl, omega arith, refl);
+        })
 
     replaced : a ≡ 0 → act (one .action) (take part place) ≡ take part place ++ letters-new
     unfolding act
@@ -100,11 +101,13 @@ module _ (table : List ℕ) (root number : ℕ) (place : List ℕ) (size : ℕ) 
         rw (given, replaced e)
         (record {
           fits-is = sym (le-leb (length (take part place ++ letters-new)) (length place) (omega (arith, new-long)));
-          letters = λ t. (rw stored (first ∙ rw all), omega arith, refl) })
+          letters = λ t. (rw stored (first ∙ rw all), omega arith, refl);
+        })
 
     pub step-outgrown : (opened : Bool) → a ≡ 0 → length place - part < s2 → Stepped result (length place) place size opened false
     step-outgrown opened e room =
         rw (given, replaced e)
         (record {
           fits-is = sym (lt-leb (length (take part place ++ letters-new)) (length place) (omega (arith, new-long)));
-          letters = λ t. absurd (false≢true t) })
+          letters = λ t. absurd (false≢true t);
+        })

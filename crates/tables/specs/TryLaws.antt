@@ -142,3 +142,21 @@ module _ (table : List ℕ) (root found : ℕ) (word : List ℕ) (number conditi
       → part ≡ length word - length s1 → answer ≡ holds condition (take part word) → answer ≡ obeys table root found word number condition s1
   unfolding obeys before
   obeys-judged there answer part h e f p j = rw (le-leb found number h, ← e, eq-eqb found there f, ← p) j
+
+-- What was handed back says whether a rule was picked, and which
+
+pub none-picked-as : (sheet : List ℕ) (found : Option Rule) (place action opens s1 s2 : ℕ) → PickedAs sheet found place action opens s1 s2
+    → place ≡ 0 → found ≡ none
+none-picked-as sheet none place action opens s1 s2 is e = refl
+none-picked-as sheet (some one) place action opens s1 s2 is e = let h = is .0 in absurd (omega arith)
+
+pub record Some (sheet : List ℕ) (found : Option Rule) (place action opens s1 s2 : ℕ) : Type 0 where
+  pub one : Rule
+  pub condition : ℕ
+  pub is-one : found ≡ some one
+  pub facts : RuleFacts sheet place condition action opens s1 s2 one
+
+pub some-picked-as : (sheet : List ℕ) (found : Option Rule) (place action opens s1 s2 : ℕ) → PickedAs sheet found place action opens s1 s2
+    → (place ≡ 0 → ⊥) → Some sheet found place action opens s1 s2
+some-picked-as sheet none place action opens s1 s2 is e = absurd (e is)
+some-picked-as sheet (some one) place action opens s1 s2 is e = record { one = one; condition = is .1; is-one = refl; facts = is .2 }

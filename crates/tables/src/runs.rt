@@ -2,8 +2,12 @@
 ghost use mathlib.Core.Path.{_≡_};
 ghost use Prim.Native.Nat.{_+_, _-_, _<_, _≤_};
 ghost use lib.ListN.{length, take, drop};
+ghost use lib.Seq.{paste};
 ghost use Rattle.paper.specs.Groups.{same};
+ghost use Rattle.tables.specs.Walk.{walkGroup};
+ghost use Rattle.tables.specs.StepLaws.{Stepped};
 ghost use Rattle.tables.specs.TryLaws.{Readable, PickedAs, picked, rulesOf, restAt, obeys as obeysOf};
+use crate::walks::deepest;
 use crate::walks::held_at;
 use sheets::reader::draw;
 use sheets::records::Record;
@@ -135,4 +139,83 @@ fn tried_at(
         }
     }
     nothing()
+}
+
+// Copies letters to a place of the word.
+fn copy_in(word: &mut [u8], at: usize, from: &[u8])
+    requires { ⌜ at + length (now from) ≤ length (now word) ⌝ }
+    ensures { λ r. ⌜ now (word .exit) ≡ paste (now (word .entry)) at (now (from .entry)) (length (now (from .entry))) ⌝ }
+{
+    let mut i = 0;
+    while i < from.len() {
+        word[at + i] = from[i];
+        i += 1;
+    }
+}
+
+// What a group leaves: the letters that stand first in the word's place, whether the next group is opened, and whether the
+// result fits the place.
+struct Step {
+    size: usize,
+    opened: bool,
+    fits: bool,
+}
+
+// Walks a group, whose rules stand from `at` on, on the first `size` letters of the word.
+fn walk_group(
+    sheet: &[u8],
+    at: usize,
+    groups: usize,
+    rules: usize,
+    table: &[u16],
+    root: usize,
+    word: &mut [u8],
+    size: usize,
+) -> Step
+    requires { ⌜ Readable (now sheet) at groups rules × ((0 < at) × ((at ≤ length (now sheet)) × ((rules ≤ 128) × ((root < 65536) × (size ≤ length (now word)))))) ⌝ }
+    ensures { λ r. ⌜ Stepped (walkGroup (now (table .entry)) root (rules + 1) (take size (now (word .entry))) (rulesOf (restAt (now (sheet .entry)) at groups rules))) (length (now (word .entry))) (now (word .exit)) (r .size) (r .opened) (r .fits) ⌝ }
+{
+    let found = deepest(table, root, &word[..size]);
+    if found == 0 {
+        return Step {
+            size,
+            opened: false,
+            fits: true,
+        };
+    }
+    let rule = tried_at(sheet, at, groups, rules, table, root, found, &word[..size]);
+    let place = rule.place;
+    if place == 0 {
+        return Step {
+            size,
+            opened: false,
+            fits: true,
+        };
+    }
+    let ending = rule.ending;
+    let part = less(size, ending);
+    let opened = rule.opens == 1;
+    if rule.action != 0 {
+        return Step {
+            size: less(part, 1),
+            opened,
+            fits: true,
+        };
+    }
+    let added = rule.replacement;
+    if word.len() - part < added {
+        return Step {
+            size,
+            opened,
+            fits: false,
+        };
+    }
+    let start = place + 8 + ending;
+    let end = start + added;
+    copy_in(word, part, &sheet[start..end]);
+    Step {
+        size: part + added,
+        opened,
+        fits: true,
+    }
 }
