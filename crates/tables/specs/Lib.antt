@@ -45,4 +45,5 @@ pub mod TranslationAnswers
 pub mod RulePlaces
 pub mod TryLaws
 pub mod StepLaws
+pub mod WalkingLaws
 pub mod RunSteps

@@ -72,6 +72,7 @@ pub record GroupNext (sheet : List ℕ) (at groups rules : ℕ) (list : List Rul
   pub rules-then : List Rule
   pub groups-then : List Group
   pub gate-then : Gate
+  pub gate-is : gate-then ≡ gate (body (drop at sheet))
   pub holds : Holding sheet (at + 6) (groups + 1) rules rules-then groups-then
   pub none-before : list ≡ []
   pub group-first : more ≡ record { gate = gate-then; rules = rules-then } ∷ groups-then
@@ -144,6 +145,7 @@ module _ (sheet : List ℕ) (at groups rules : ℕ) (list : List Rule) (more : L
         rules-then = found .rules-then;
         groups-then = found .groups-then;
         gate-then = gate (body rest);
+        gate-is = refl;
         holds = rw (add-one groups) (sym (left (suc groups) rules (at + 6) next) ∙ found .rest-then);
         none-before = found .none-before;
         group-first = found .group-first;
