@@ -46,4 +46,5 @@ pub mod RulePlaces
 pub mod TryLaws
 pub mod StepLaws
 pub mod WalkingLaws
+pub mod WalkAnswers
 pub mod RunSteps

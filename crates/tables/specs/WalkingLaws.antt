@@ -95,7 +95,8 @@ module _ (table sheet first : List ℕ) (at next rules : ℕ) (opened : Bool) (w
           list = found .rules-then;
           more = found .groups-then;
           holds = found .holds;
-          decides = ap (λ (n : ℕ). walk table (length first) n (rules + 1 + length (found .rules-then)) (found .groups-then) opened′ word′) (add-one next) ∙ sym e ∙ from-here }
+          decides = ap (λ (n : ℕ). walk table (length first) n (rules + 1 + length (found .rules-then)) (found .groups-then) opened′ word′) (add-one next) ∙ sym e ∙ from-here;
+        }
 
     pub walking-skip : (eqb number 0 || opened) ≡ false → Walking table sheet first (at + 6) (next + 1) rules false word
     walking-skip t =
@@ -122,10 +123,11 @@ module _ (table sheet first : List ℕ) (at next rules : ℕ) (opened : Bool) (w
   walking-rule s1 s2 here =
       let found = rule-next sheet at next rules (state .list) (state .more) (state .holds) s1 s2 here in
       let shorter = ap length (found .rule-first) in
-      let same-number : rules + 1 + 1 + length (found .rules-then) ≡ rules + 1 + length (state .list) = omega (arith, shorter) in
-      ( record { list = found .rules-then; more = state .more; holds = found .holds; decides = rw same-number (state .decides) }
-      , found .inside
-      , found .few )
+      let same-number : rules + 1 + 1 + length (found .rules-then) ≡ rules + 1 + length (state .list) = omega (arith, shorter) in (
+        record { list = found .rules-then; more = state .more; holds = found .holds; decides = rw same-number (state .decides) },
+        found .inside,
+        found .few,
+      )
 
   pub walking-end : EndHere (drop at sheet) → done word ≡ walkWord table (groupsOf sheet) first
   unfolding walk

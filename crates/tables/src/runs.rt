@@ -4,7 +4,10 @@ ghost use Prim.Native.Nat.{_+_, _-_, _<_, _≤_};
 ghost use lib.ListN.{length, take, drop};
 ghost use lib.Seq.{paste};
 ghost use Rattle.paper.specs.Groups.{same};
-ghost use Rattle.tables.specs.Walk.{walkGroup};
+ghost use Rattle.tables.specs.Answers.{groupsOf};
+ghost use Rattle.tables.specs.GoingLaws.{Accepted};
+ghost use Rattle.tables.specs.Walk.{walkGroup, walkWord};
+ghost use Rattle.tables.specs.WalkAnswers.{WalkedAs};
 ghost use Rattle.tables.specs.StepLaws.{Stepped};
 ghost use Rattle.tables.specs.TryLaws.{Readable, PickedAs, picked, rulesOf, restAt, obeys as obeysOf};
 use crate::walks::deepest;
@@ -218,4 +221,55 @@ fn walk_group(
         opened,
         fits: true,
     }
+}
+
+// What walking all groups leaves: so many letters, which stand first in the word's place, or a result that does not fit it.
+pub enum Walked {
+    Left(usize),
+    Outgrown,
+}
+
+// Walks all groups of a sheet on a word, in its own place.
+pub fn walk_groups(sheet: &[u8], table: &[u16], word: &mut [u8]) -> Walked
+    requires { ⌜ Accepted (now sheet) ⌝ }
+    ensures { λ r. ⌜ WalkedAs (walkWord (now (table .entry)) (groupsOf (now (sheet .entry))) (now (word .entry))) r (now (word .exit)) ⌝ }
+{
+    let mut at = 0;
+    let mut next = 0;
+    let mut rules = 0;
+    let mut opened = false;
+    let mut size = word.len();
+    while at < sheet.len() {
+        let found = draw(sheet, at);
+        match found {
+            Record::Group(gate) => {
+                let root = next;
+                at += 6;
+                next += 1;
+                if (gate == 0) | opened {
+                    let step = walk_group(sheet, at, next, rules, table, root, word, size);
+                    if !step.fits {
+                        return Walked::Outgrown;
+                    }
+                    size = step.size;
+                    opened = step.opened;
+                } else {
+                    opened = false;
+                }
+            }
+            Record::Rule {
+                condition: _,
+                action: _,
+                opens: _,
+                ending,
+                replacement,
+            } => {
+                rules += 1;
+                at += 8 + ending + replacement;
+            }
+            Record::End => return Walked::Left(size),
+            Record::Faulty => return Walked::Outgrown,
+        }
+    }
+    Walked::Outgrown
 }
