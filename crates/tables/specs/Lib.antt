@@ -47,4 +47,6 @@ pub mod TryLaws
 pub mod StepLaws
 pub mod WalkingLaws
 pub mod WalkAnswers
+pub mod RanAnswers
 pub mod RunSteps
+pub mod RanLaws

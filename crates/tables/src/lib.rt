@@ -7,6 +7,7 @@ mod runs;
 mod sheet;
 pub mod shipped;
 mod walks;
+mod words;
 
 use sheet::group_count;
 use sheet::lay;
@@ -18,6 +19,18 @@ pub enum Translated {
     Nodes(usize),
     Refused(usize),
     Short,
+}
+
+// What a run of a table on a word answers: the stem's length; that the word has 0 or more than 64 bytes; that a byte of it is
+// outside a to z; the place of the sheet's first faulty record; that some group's result is longer than the word's place; that
+// the table is not the sheet's.
+pub enum Ran {
+    Done(usize),
+    Length,
+    Letter,
+    Refused(usize),
+    Longer,
+    Table,
 }
 
 // Translates a sheet to a table.

@@ -145,7 +145,7 @@ fn tried_at(
 }
 
 // Copies letters to a place of the word.
-fn copy_in(word: &mut [u8], at: usize, from: &[u8])
+pub fn copy_in(word: &mut [u8], at: usize, from: &[u8])
     requires { ⌜ at + length (now from) ≤ length (now word) ⌝ }
     ensures { λ r. ⌜ now (word .exit) ≡ paste (now (word .entry)) at (now (from .entry)) (length (now (from .entry))) ⌝ }
 {
