@@ -50,3 +50,4 @@ pub mod WalkAnswers
 pub mod RanAnswers
 pub mod RunSteps
 pub mod RanLaws
+pub mod RunLaws

@@ -1,16 +1,14 @@
 -- What a run on a word answers, case by case. Assumes nothing.
-use Prim.Native.Nat.{ℕ, zero, _+_, _-_, _≤_, _<_}
+use Prim.Native.Nat.{ℕ, _+_, _-_, _≤_, _<_}
 use mathlib.Core.Path.{_≡_, refl, sym, ap, _∙_}
-use mathlib.Core.Bool.{Bool, true, false, cond, _||_, or-true}
-use mathlib.Core.List.{List, [], _∷_, _++_, append-nil}
-use native.Mathlib.Nat.{zero-add}
+use mathlib.Core.Bool.{false, or-true}
+use mathlib.Core.List.{List, _++_, append-nil}
 use native.Mathlib.Omega.{arith}
-use lib.Dec.{eqb, ltb}
 use lib.ListN.{length, take, drop, replicate, drop-of-length-le}
 use lib.Seq.{length-take-le, take-append-seam, take-length, paste}
 use borrow.Author.Tests.{eq-eqb, ne-eqb, lt-ltb, le-ltb}
 use Rattle.paper.specs.Groups.{Reading, done, outgrown}
-use Rattle.paper.specs.Words.{Outcome, wrongLength, firstOther, placed, readingOutcome, wordOutcome}
+use Rattle.paper.specs.Words.{wrongLength, firstOther, placed, readingOutcome, wordOutcome}
 use Rattle.tables.specs.declared.Ran.the-variants.{Done, Length, Letter, Longer}
 use Rattle.tables.specs.declared.runs.Walked.{Walked}
 use Rattle.tables.specs.declared.runs.Walked.the-variants.{Left, Outgrown}

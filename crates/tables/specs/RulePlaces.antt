@@ -1,20 +1,19 @@
 -- What the record of a rule says of the rule: its numbers, and where its letters stand in the sheet. Assumes nothing.
-use Prim.Native.Nat.{ℕ, zero, suc, _+_, _-_, _≤_, _<_}
-use mathlib.Core.Path.{_≡_, refl, sym, ap, _∙_}
-use mathlib.Core.Bool.{Bool, true, false, cond}
-use mathlib.Core.List.{List, [], _∷_, _++_}
+use Prim.Native.Nat.{ℕ, zero, suc, _+_, _-_, _≤_}
+use mathlib.Core.Path.{_≡_, refl, sym, _∙_}
+use mathlib.Core.Bool.{cond}
+use mathlib.Core.List.{List, [], _∷_}
 use native.Mathlib.Nat.{sub-zero, zero-sub, suc-sub-suc}
 use native.Mathlib.Omega.{arith}
 use lib.Dec.{eqb}
 use lib.ListN.{length, take, drop, length-drop}
 use lib.Seq.{drop-drop, drop-nil, take-nil}
-use Rattle.paper.specs.Groups.{Action, replace, single-letter, Rule}
-use Rattle.sheets.specs.Records.{bodyLength, body, condition, actionNumber, opensNumber, endingLength, ending, replacement, rule, cut}
+use Rattle.paper.specs.Groups.{replace, single-letter, Rule}
+use Rattle.sheets.specs.Records.{bodyLength, body, condition, actionNumber, opensNumber, endingLength, ending, replacement, rule}
 use Rattle.sheets.specs.ByteLaws.{long, fitting, length-body}
 use Rattle.sheets.specs.RecordLaws.{RuleHere, rule-here, at-rule}
-use Rattle.sheets.specs.RuleLaws.{Sound, sound, length-ending, length-replacement}
+use Rattle.sheets.specs.RuleLaws.{sound, length-ending, length-replacement}
 use Rattle.sheets.specs.Answers.{recordIn, ruleRecord}
-use Rattle.sheets.specs.declared.records.Record.{Record}
 use Rattle.sheets.specs.declared.records.Record.the-variants.{Rule as RuleRecord}
 
 pub record RuleFacts (sheet : List ℕ) (at c a o s1 s2 : ℕ) (one : Rule) : Type 0 where

@@ -1,16 +1,16 @@
 -- What one group does to a word, as a run takes it: the word's letters stand first in its place. Assumes nothing.
-use Prim.Native.Nat.{ℕ, zero, suc, _+_, _-_, _≤_, _<_, min}
-use mathlib.Core.Path.{_≡_, refl, sym, ap, _∙_}
-use mathlib.Core.Bool.{Bool, true, false, cond, false≢true}
-use mathlib.Core.List.{List, [], _∷_, _++_}
-use mathlib.Core.Option.{Option, none, some}
+use Prim.Native.Nat.{ℕ, _+_, _-_, _≤_, _<_}
+use mathlib.Core.Path.{_≡_, refl, sym, _∙_}
+use mathlib.Core.Bool.{Bool, true, false, false≢true}
+use mathlib.Core.List.{List, _++_}
+use mathlib.Core.Option.{none, some}
 use native.Mathlib.Omega.{arith}
 use lib.Dec.{eqb, leb}
 use lib.ListN.{length, take, drop, length-append, length-drop}
 use lib.Seq.{length-take-le, take-take, take-all, paste, take-paste}
 use borrow.Author.Tests.{le-leb, lt-leb, eq-eqb, ne-eqb}
 use Rattle.paper.specs.Letters.{inward}
-use Rattle.paper.specs.Groups.{Action, replace, single-letter, Rule, Result, before, act, resultOf}
+use Rattle.paper.specs.Groups.{replace, single-letter, Rule, Result, before, act, resultOf}
 use Rattle.tables.specs.Walk.{deepest, walked, walkGroup}
 use Rattle.tables.specs.PickLaws.{walked-picks}
 use Rattle.tables.specs.RulePlaces.{RuleFacts}

@@ -1,7 +1,7 @@
 -- Trying the rules of a group in sheet order, record by record. Assumes nothing.
-use Prim.Native.Nat.{ℕ, zero, suc, _+_, _-_, _≤_, _<_}
+use Prim.Native.Nat.{ℕ, suc, _+_, _-_, _≤_, _<_}
 use mathlib.Core.Path.{_≡_, refl, sym, ap, _∙_}
-use mathlib.Core.Bool.{Bool, true, false, cond, _&&_, and-false}
+use mathlib.Core.Bool.{Bool, true, false, _&&_, and-false}
 use borrow.Author.Tests.{lt-leb, le-leb, eq-eqb, ne-eqb}
 use mathlib.Core.List.{List, [], _∷_}
 use mathlib.Core.Option.{Option, none, some}
@@ -13,14 +13,13 @@ use Rattle.paper.specs.Conditions.{holds}
 use Rattle.paper.specs.Groups.{Rule, Group, before}
 use Rattle.sheets.specs.Records.{body, rule}
 use Rattle.sheets.specs.Sheets.{Rest, faulty-at, holding, readRest}
-use Rattle.sheets.specs.RecordLaws.{GroupHere, RuleHere, EndHere}
+use Rattle.sheets.specs.RecordLaws.{GroupHere, EndHere}
 use Rattle.sheets.specs.Answers.{recordIn}
 use Rattle.sheets.specs.RecordLaws.{rule-here}
-use Rattle.sheets.specs.declared.records.Record.{Record}
 use Rattle.sheets.specs.declared.records.Record.the-variants.{Rule as RuleRecord}
 use Rattle.tables.specs.Walk.{reached, held}
 use Rattle.tables.specs.PickLaws.{pick}
-use Rattle.tables.specs.SheetPlaces.{Holding, GroupNext, RuleNext, group-next, rule-next, end-next}
+use Rattle.tables.specs.SheetPlaces.{Holding, RuleNext, group-next, rule-next, end-next}
 use Rattle.tables.specs.RulePlaces.{RuleFacts, rule-facts}
 
 -- the rules up to the next group, and the groups, that the rest of a sheet holds

@@ -1,23 +1,21 @@
 -- Walking the groups of a sheet one after another, record by record. Assumes nothing.
-use Prim.Native.Nat.{ℕ, zero, suc, _+_, _-_, _≤_, _<_}
-use mathlib.Core.Path.{_≡_, refl, sym, ap, subst, _∙_}
+use Prim.Native.Nat.{ℕ, suc, _+_, _≤_, _<_}
+use mathlib.Core.Path.{_≡_, sym, ap, subst, _∙_}
 use mathlib.Core.Bool.{Bool, true, false, cond, _||_}
 use mathlib.Core.List.{List, [], _∷_}
 use native.Mathlib.Numerals.{add-one}
-use native.Mathlib.Nat.{add-zero}
 use native.Mathlib.Omega.{arith}
 use lib.Dec.{eqb, leb}
 use lib.ListN.{length, take, drop}
 use lib.Seq.{take-length}
-use Rattle.paper.specs.Groups.{Rule, Gate, always, if-opened, Group, Result, Reading, done, outgrown, runs}
-use Rattle.sheets.specs.Records.{body, gateNumber, gate}
-use Rattle.sheets.specs.Sheets.{Rest, holding}
+use Rattle.paper.specs.Groups.{Rule, Gate, always, if-opened, Group, Result, done, outgrown, runs}
+use Rattle.sheets.specs.Records.{gate}
 use Rattle.sheets.specs.RecordLaws.{GroupHere, RuleHere, EndHere}
 use Rattle.tables.specs.Walk.{walkGroup, walk, walkWord}
 use Rattle.tables.specs.TestLaws.{by-test}
 use Rattle.tables.specs.Answers.{groupsOf}
 use Rattle.tables.specs.GoingLaws.{Accepted}
-use Rattle.tables.specs.SheetPlaces.{Holding, holding-start, GroupNext, RuleNext, group-next, rule-next, end-next}
+use Rattle.tables.specs.SheetPlaces.{Holding, holding-start, GroupNext, group-next, rule-next, end-next}
 use Rattle.tables.specs.TryLaws.{rulesOf, groupsAfter, restAt, Readable}
 use Rattle.tables.specs.StepLaws.{Stepped}
 

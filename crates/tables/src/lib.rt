@@ -1,6 +1,8 @@
 // Tables: the translation from a sheet to a table of nodes, and the run of such a table on a word.
 ghost use mathlib.Core.Path.{_≡_};
 ghost use Rattle.tables.specs.Answers.{translation};
+ghost use Rattle.tables.specs.RanAnswers.{RanAs};
+ghost use Rattle.tables.specs.RunAnswers.{runOutcome};
 
 mod layings;
 mod runs;
@@ -9,9 +11,11 @@ pub mod shipped;
 mod walks;
 mod words;
 
+use runs::same_numbers;
 use sheet::group_count;
 use sheet::lay;
 use sheets::Checked;
+use words::word_run;
 
 // What a translation answers: the nodes that it laid out, the place of the sheet's first faulty record, or that the lent table
 // is too short.
@@ -50,6 +54,28 @@ pub fn translate(sheet: &[u8], table: &mut [u16]) -> Translated
                 lay(sheet, &mut table[..end], groups);
             }
             Translated::Nodes(nodes)
+        }
+    }
+}
+
+// Runs a table on a word, after the sheet and the table are held against each other.
+pub fn run(sheet: &[u8], table: &[u16], word: &mut [u8]) -> Ran
+    ensures { λ r. ⌜ RanAs (runOutcome (now (sheet .entry)) (now (table .entry)) (now (word .entry))) r (now (word .exit)) ⌝ }
+{
+    let mut own = [0u16; 6208];
+    let found = translate(sheet, &mut own[..]);
+    match found {
+        Translated::Refused(place) => Ran::Refused(place),
+        Translated::Short => Ran::Table,
+        Translated::Nodes(nodes) => {
+            let end = 4 * nodes;
+            if table.len() < end {
+                return Ran::Table;
+            }
+            if !same_numbers(&table[..end], &own[..end]) {
+                return Ran::Table;
+            }
+            word_run(sheet, &table[..end], word)
         }
     }
 }
