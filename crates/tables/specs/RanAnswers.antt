@@ -1,7 +1,9 @@
 -- What the answer of a run means: document 01's number and value for each case. Assumes nothing.
 use Prim.Native.Nat.{ℕ}
-use mathlib.Core.Path.{_≡_}
+use mathlib.Core.Path.{_≡_, refl, sym, ap₂, _∙_}
+use mathlib.Core.Bool.{cond}
 use mathlib.Core.List.{List}
+use lib.Dec.{eqb}
 use Rattle.paper.specs.Words.{Outcome}
 use Rattle.tables.specs.declared.Ran.{Ran}
 use Rattle.tables.specs.declared.Ran.the-variants.{Done, Length, Letter, Refused, Longer, Table}
@@ -30,3 +32,27 @@ pub record RanAs (outcome : Outcome) (ran : Ran) (after : List ℕ) : Type 0 whe
   pub number-is : numberOfRan ran ≡ outcome .number
   pub value-is : valueOfRan ran ≡ outcome .value
   pub place-is : after ≡ outcome .place
+
+-- the number and the value say which answer it was, so an outcome allows one answer and one content of the word's place
+abbrev answerOf : ℕ → ℕ → Ran
+answerOf number value =
+    cond (eqb number 0) (Done value)
+    (cond (eqb number 1) Length
+    (cond (eqb number 2) Letter (cond (eqb number 3) (Refused value) (cond (eqb number 4) Longer Table))))
+
+answer-of : (ran : Ran) → answerOf (numberOfRan ran) (valueOfRan ran) ≡ ran
+answer-of (Done size) = refl
+answer-of Length = refl
+answer-of Letter = refl
+answer-of (Refused place) = refl
+answer-of Longer = refl
+answer-of Table = refl
+
+pub ran-once : (outcome : Outcome) (one other : Ran) (after later : List ℕ) → RanAs outcome one after → RanAs outcome other later
+    → (one ≡ other) × (after ≡ later)
+ran-once outcome one other after later a b = (
+  sym (answer-of one)
+      ∙ ap₂ answerOf (a .number-is ∙ sym (b .number-is)) (a .value-is ∙ sym (b .value-is))
+      ∙ answer-of other,
+  a .place-is ∙ sym (b .place-is),
+)
