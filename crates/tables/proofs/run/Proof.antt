@@ -1,0 +1,113 @@
+-- The answers, one by one. Assumes nothing.
+use Prim.Native.Nat.{_*_}
+use mathlib.Core.Path.{refl, sym, _∙_}
+use native.Mathlib.Omega.{arith}
+use lib.Seq.{length-take-le}
+use borrow.Author.Tests.{not-true, not-false}
+use Rattle.tables.specs.GoingLaws.{small-table}
+use Rattle.tables.specs.RunLaws.{run-refused, never-short, run-accepted, run-missing, run-other, run-right}
+use borrow.Author.Needs.{needs}
+use Rattle.tables.proofs.run.Statement.{statement}
+use Rattle.tables.proofs.run.Tie as tie
+
+slice-aggregate-translate : tie.Need-slice-aggregate-translate
+slice-aggregate-translate c = search needs
+
+translate-requires : tie.Need-translate-requires
+translate-requires c κs = search needs
+
+enum-known-found : tie.Need-enum-known-found
+enum-known-found c = search needs
+
+enum-told : tie.Need-enum-told
+enum-told c = search needs
+
+enum-known-found-2 : tie.Need-enum-known-found-2
+enum-known-found-2 c = search needs
+
+mul-end : tie.Need-mul-end
+mul-end c =
+    let a = c .before .before .before .before .before .before .before .before .before .args in
+    let is = run-accepted (a .sheet .now) _ (a .table .now) (a .word .now) _ (sym (c .before .found2 .given .1) ∙ c .before .before .before .before .translate .ensures .0) in
+    omega (arith, small-table (a .sheet .now) (is .0), is .1)
+
+returns : tie.Need-returns
+returns c =
+    let a = c .before .before .before .before .before .before .before .before .before .before .args in
+    run-missing (a .sheet .now) _ (a .table .now) (a .word .now) _ (sym (c .before .before .found2 .given .1) ∙ c .before .before .before .before .before .translate .ensures .0) (c .if1 .taken)
+
+slice-aggregate-same-numbers : tie.Need-slice-aggregate-same-numbers
+slice-aggregate-same-numbers c = sym (length-take-le (4 * c .before .before .before .found2 .given .0 .0) (c .before .before .before .before .before .before .before .before .before .before .before .args .table .now) (c .before .if1 .left))
+
+array-share-prefix-own : tie.Need-array-share-prefix-own
+array-share-prefix-own c =
+    let a = c .before .before .before .before .before .before .before .before .before .before .before .args in
+    let is = run-accepted (a .sheet .now) _ (a .table .now) (a .word .now) _ (sym (c .before .before .before .found2 .given .1) ∙ c .before .before .before .before .before .before .translate .ensures .0) in
+    let within = small-table (a .sheet .now) (is .0) in
+    let long = c .before .before .before .before .before .before .translate .kept .1 .0 in
+    omega (arith, within, long, is .1)
+
+slice-aggregate-same-numbers-2 : tie.Need-slice-aggregate-same-numbers-2
+slice-aggregate-same-numbers-2 c =
+    let a = c .before .before .before .before .before .before .before .before .before .before .before .before .args in
+    let is = run-accepted (a .sheet .now) _ (a .table .now) (a .word .now) _ (sym (c .before .before .before .before .found2 .given .1) ∙ c .before .before .before .before .before .before .before .translate .ensures .0) in
+    let within = small-table (a .sheet .now) (is .0) in
+    let long = c .before .before .before .before .before .before .before .translate .kept .1 .0 in
+    sym (length-take-le (4 * c .before .before .before .before .found2 .given .0 .0) (c .before .before .before .before .before .before .before .translate .last .1 .0) (omega (arith, within, long, is .1)))
+
+same-numbers-requires : tie.Need-same-numbers-requires
+same-numbers-requires c κs = search needs
+
+returns-2 : tie.Need-returns-2
+returns-2 c =
+    let a = c .before .before .before .before .before .before .before .before .before .before .before .before .before .before .args in
+    run-other (a .sheet .now) _ (a .table .now) (a .word .now) _ (sym (c .before .before .before .before .before .before .found2 .given .1) ∙ c .before .before .before .before .before .before .before .before .before .translate .ensures .0) _ (c .before .before .before .before .before .before .before .before .before .translate .ensures .1) _ (c .before .same-numbers .ensures) (not-true _ (c .if2 .taken))
+
+slice-aggregate-word-run : tie.Need-slice-aggregate-word-run
+slice-aggregate-word-run c = sym (length-take-le (4 * c .before .before .before .before .before .before .before .found2 .given .0 .0) (c .before .before .before .before .before .before .before .before .before .before .before .before .before .before .before .args .table .now) (c .before .before .before .before .before .if1 .left))
+
+word-run-requires : tie.Need-word-run-requires
+word-run-requires c κs =
+    let a = c .before .before .before .before .before .before .before .before .before .before .before .before .before .before .before .before .args in
+    run-accepted (a .sheet .now) _ (a .table .now) (a .word .now) _ (sym (c .before .before .before .before .before .before .before .before .found2 .given .1) ∙ c .before .before .before .before .before .before .before .before .before .before .before .translate .ensures .0) .0
+
+returns-3 : tie.Need-returns-3
+returns-3 c =
+    let a = c .before .before .before .before .before .before .before .before .before .args in
+    run-refused (a .sheet .now) _ (a .table .now) (a .word .now) _ (sym (c .before .found .given .1) ∙ c .before .before .before .before .translate .ensures .0)
+
+returns-4 : tie.Need-returns-4
+returns-4 c =
+    let a = c .before .before .before .before .before .before .before .before .args in
+    absurd (never-short (a .sheet .now) _ (a .table .now) (a .word .now) refl (sym (c .enum-told .given .1) ∙ c .before .before .before .translate .ensures .0))
+
+same-length : tie.Need-same-length
+same-length c = search needs
+
+returns-5 : tie.Need-returns-5
+returns-5 c =
+    let a = c .before .before .before .before .before .before .before .before .before .before .before .before .before .before .before .before .before .before .before .args in
+    run-right (a .sheet .now) _ (a .table .now) (a .word .now) _ (sym (c .before .before .before .before .before .before .before .before .before .before .before .found2 .given .1) ∙ c .before .before .before .before .before .before .before .before .before .before .before .before .before .before .translate .ensures .0) _ (c .before .before .before .before .before .before .before .before .before .before .before .before .before .before .translate .ensures .1) _ (c .before .before .before .before .before .before .same-numbers .ensures) _ _ (not-false _ (c .before .before .before .before .before .if2 .left)) (c .before .before .word-run .ensures)
+
+pub run-spec : {M : Type 1} → statement M
+run-spec =
+    tie.close
+    (tie.spec
+    slice-aggregate-translate
+    translate-requires
+    enum-known-found
+    enum-told
+    enum-known-found-2
+    mul-end
+    returns
+    slice-aggregate-same-numbers
+    array-share-prefix-own
+    slice-aggregate-same-numbers-2
+    same-numbers-requires
+    returns-2
+    slice-aggregate-word-run
+    word-run-requires
+    returns-3
+    returns-4
+    same-length
+    returns-5)

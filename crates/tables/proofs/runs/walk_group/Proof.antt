@@ -1,0 +1,197 @@
+-- What a group leaves, case by case. Assumes nothing.
+use Prim.Native.Nat.{_+_, _-_}
+use mathlib.Core.Path.{_≡_, sym}
+use native.Mathlib.Omega.{arith}
+use lib.ListN.{length, take, drop, length-drop}
+use lib.Seq.{length-take-le}
+use Rattle.tables.specs.TryLaws.{picked, rulesOf, restAt, none-picked-as, some-picked-as}
+use Rattle.tables.specs.StepLaws.{step-none, step-turned-down, step-single, step-replace, step-outgrown}
+use borrow.Author.Needs.{needs}
+use Rattle.tables.proofs.runs.walk_group.Statement.{statement}
+use Rattle.tables.proofs.runs.walk_group.Tie as tie
+
+slice-reshare-prefix-deepest : tie.Need-slice-reshare-prefix-deepest
+slice-reshare-prefix-deepest c = search needs
+
+slice-aggregate-deepest : tie.Need-slice-aggregate-deepest
+slice-aggregate-deepest c = sym (length-take-le (c .before .before .before .before .args .size) (c .before .before .before .before .args .word .now) (c .before .before .before .before .pre .1 .1 .1 .1 .1))
+
+deepest-requires : tie.Need-deepest-requires
+deepest-requires c κs = search needs
+
+same-length : tie.Need-same-length
+same-length c = search needs
+
+returns : tie.Need-returns
+returns c =
+    let a = c .before .before .before .before .before .before .args in
+    let rest = rulesOf (restAt (a .sheet .now) (a .at) (a .groups) (a .rules)) in
+    let within = c .before .before .before .before .before .before .pre .1 .1 .1 .1 .1 in
+    step-none (a .table .now) (a .root) (a .rules + 1) (a .word .now) (a .size) rest (c .before .deepest .result) within (c .before .deepest .ensures) (c .if1 .taken)
+
+slice-reshare-prefix-tried-at : tie.Need-slice-reshare-prefix-tried-at
+slice-reshare-prefix-tried-at c = search needs
+
+slice-aggregate-tried-at : tie.Need-slice-aggregate-tried-at
+slice-aggregate-tried-at c = sym (length-take-le (c .before .before .before .before .before .before .before .args .size) (c .before .before .before .before .before .before .before .args .word .now) (c .before .before .before .before .before .before .before .pre .1 .1 .1 .1 .1))
+
+tried-at-requires : tie.Need-tried-at-requires
+tried-at-requires c κs = search needs
+
+same-length-2 : tie.Need-same-length-2
+same-length-2 c = search needs
+
+returns-2 : tie.Need-returns-2
+returns-2 c =
+    let a = c .before .before .before .before .before .before .before .before .before .args in
+    let rest = rulesOf (restAt (a .sheet .now) (a .at) (a .groups) (a .rules)) in
+    let within = c .before .before .before .before .before .before .before .before .before .pre .1 .1 .1 .1 .1 in
+    step-turned-down (a .table .now) (a .root) (a .rules + 1) (a .word .now) (a .size) rest (c .before .before .before .before .deepest .result) within (c .before .before .before .before .deepest .ensures) (c .before .before .before .if1 .left)
+    (none-picked-as (a .sheet .now) _ _ _ _ _ _ (c .before .tried-at .ensures) (c .if2 .taken))
+
+less-requires : tie.Need-less-requires
+less-requires c κs = search needs
+
+less-requires-2 : tie.Need-less-requires-2
+less-requires-2 c κs = search needs
+
+same-length-3 : tie.Need-same-length-3
+same-length-3 c = search needs
+
+returns-3 : tie.Need-returns-3
+returns-3 c =
+    let a = c .before .before .before .before .before .before .before .before .before .before .before .before .before .before .args in
+    let rest = rulesOf (restAt (a .sheet .now) (a .at) (a .groups) (a .rules)) in
+    let within = c .before .before .before .before .before .before .before .before .before .before .before .before .before .before .pre .1 .1 .1 .1 .1 in
+    let rule = c .before .before .before .before .before .before .tried-at .result in
+    let it = some-picked-as (a .sheet .now) (picked (a .table .now) (a .root) (c .before .before .before .before .before .before .before .before .before .deepest .result) (take (a .size) (a .word .now)) (a .rules + 1) rest) (rule .place) (rule .action) (rule .opens) (rule .ending) (rule .replacement) (c .before .before .before .before .before .before .tried-at .ensures) (c .before .before .before .before .before .if2 .left) in
+    rw (c .less2 .ensures, c .before .before .before .before .less .ensures) (step-single (a .table .now) (a .root) (a .rules + 1) (a .word .now) (a .size) rest (c .before .before .before .before .before .before .before .before .before .deepest .result) within (c .before .before .before .before .before .before .before .before .before .deepest .ensures) (a .sheet .now) (rule .place) (it .condition) (rule .action) (rule .opens) (rule .ending) (rule .replacement) (it .one) (it .facts) (c .before .before .before .before .before .before .before .before .if1 .left) (it .is-one) (c .before .if3 .taken))
+
+sub-if4 : tie.Need-sub-if4
+sub-if4 c = search needs
+
+same-length-4 : tie.Need-same-length-4
+same-length-4 c = search needs
+
+returns-4 : tie.Need-returns-4
+returns-4 c =
+    let a = c .before .before .before .before .before .before .before .before .before .before .before .before .before .before .args in
+    let rest = rulesOf (restAt (a .sheet .now) (a .at) (a .groups) (a .rules)) in
+    let within = c .before .before .before .before .before .before .before .before .before .before .before .before .before .before .pre .1 .1 .1 .1 .1 in
+    let rule = c .before .before .before .before .before .before .tried-at .result in
+    let it = some-picked-as (a .sheet .now) (picked (a .table .now) (a .root) (c .before .before .before .before .before .before .before .before .before .deepest .result) (take (a .size) (a .word .now)) (a .rules + 1) rest) (rule .place) (rule .action) (rule .opens) (rule .ending) (rule .replacement) (c .before .before .before .before .before .before .tried-at .ensures) (c .before .before .before .before .before .if2 .left) in
+    let room = rw (c .before .before .before .before .less .ensures) at (c .if4 .taken) in
+    step-outgrown (a .table .now) (a .root) (a .rules + 1) (a .word .now) (a .size) rest (c .before .before .before .before .before .before .before .before .before .deepest .result) within (c .before .before .before .before .before .before .before .before .before .deepest .ensures) (a .sheet .now) (rule .place) (it .condition) (rule .action) (rule .opens) (rule .ending) (rule .replacement) (it .one) (it .facts) (c .before .before .before .before .before .before .before .before .if1 .left) (it .is-one) _ (c .before .if3 .left) room
+
+add-start : tie.Need-add-start
+add-start c =
+    let a = c .before .before .before .before .before .before .before .before .before .before .before .before .before .before .args in
+    let rest = rulesOf (restAt (a .sheet .now) (a .at) (a .groups) (a .rules)) in
+    let within = c .before .before .before .before .before .before .before .before .before .before .before .before .before .before .pre .1 .1 .1 .1 .1 in
+    let rule = c .before .before .before .before .before .before .tried-at .result in
+    let it = some-picked-as (a .sheet .now) (picked (a .table .now) (a .root) (c .before .before .before .before .before .before .before .before .before .deepest .result) (take (a .size) (a .word .now)) (a .rules + 1) rest) (rule .place) (rule .action) (rule .opens) (rule .ending) (rule .replacement) (c .before .before .before .before .before .before .tried-at .ensures) (c .before .before .before .before .before .if2 .left) in
+    let inside = it .facts .inside in
+    omega arith
+
+add-start-2 : tie.Need-add-start-2
+add-start-2 c =
+    let a = c .before .before .before .before .before .before .before .before .before .before .before .before .before .before .args in
+    let rest = rulesOf (restAt (a .sheet .now) (a .at) (a .groups) (a .rules)) in
+    let within = c .before .before .before .before .before .before .before .before .before .before .before .before .before .before .pre .1 .1 .1 .1 .1 in
+    let rule = c .before .before .before .before .before .before .tried-at .result in
+    let it = some-picked-as (a .sheet .now) (picked (a .table .now) (a .root) (c .before .before .before .before .before .before .before .before .before .deepest .result) (take (a .size) (a .word .now)) (a .rules + 1) rest) (rule .place) (rule .action) (rule .opens) (rule .ending) (rule .replacement) (c .before .before .before .before .before .before .tried-at .ensures) (c .before .before .before .before .before .if2 .left) in
+    let inside = it .facts .inside in
+    omega arith
+
+add-end : tie.Need-add-end
+add-end c =
+    let a = c .before .before .before .before .before .before .before .before .before .before .before .before .before .before .args in
+    let rest = rulesOf (restAt (a .sheet .now) (a .at) (a .groups) (a .rules)) in
+    let within = c .before .before .before .before .before .before .before .before .before .before .before .before .before .before .pre .1 .1 .1 .1 .1 in
+    let rule = c .before .before .before .before .before .before .tried-at .result in
+    let it = some-picked-as (a .sheet .now) (picked (a .table .now) (a .root) (c .before .before .before .before .before .before .before .before .before .deepest .result) (take (a .size) (a .word .now)) (a .rules + 1) rest) (rule .place) (rule .action) (rule .opens) (rule .ending) (rule .replacement) (c .before .before .before .before .before .before .tried-at .ensures) (c .before .before .before .before .before .if2 .left) in
+    let inside = it .facts .inside in
+    omega arith
+
+sub-copy-in : tie.Need-sub-copy-in
+sub-copy-in c = search needs
+
+part-copy-in-start : tie.Need-part-copy-in-start
+part-copy-in-start c = search needs
+
+part-copy-in-end : tie.Need-part-copy-in-end
+part-copy-in-end c =
+    let a = c .before .before .before .before .before .before .before .before .before .before .before .before .before .before .before .args in
+    let rest = rulesOf (restAt (a .sheet .now) (a .at) (a .groups) (a .rules)) in
+    let within = c .before .before .before .before .before .before .before .before .before .before .before .before .before .before .before .pre .1 .1 .1 .1 .1 in
+    let rule = c .before .before .before .before .before .before .before .tried-at .result in
+    let it = some-picked-as (a .sheet .now) (picked (a .table .now) (a .root) (c .before .before .before .before .before .before .before .before .before .before .deepest .result) (take (a .size) (a .word .now)) (a .rules + 1) rest) (rule .place) (rule .action) (rule .opens) (rule .ending) (rule .replacement) (c .before .before .before .before .before .before .before .tried-at .ensures) (c .before .before .before .before .before .before .if2 .left) in
+    let inside = it .facts .inside in
+    omega arith
+
+copy-in-requires : tie.Need-copy-in-requires
+copy-in-requires c κs =
+    let a = c .before .before .before .before .before .before .before .before .before .before .before .before .before .before .before .before .args in
+    let rest = rulesOf (restAt (a .sheet .now) (a .at) (a .groups) (a .rules)) in
+    let within = c .before .before .before .before .before .before .before .before .before .before .before .before .before .before .before .before .pre .1 .1 .1 .1 .1 in
+    let rule = c .before .before .before .before .before .before .before .before .tried-at .result in
+    let it = some-picked-as (a .sheet .now) (picked (a .table .now) (a .root) (c .before .before .before .before .before .before .before .before .before .before .before .deepest .result) (take (a .size) (a .word .now)) (a .rules + 1) rest) (rule .place) (rule .action) (rule .opens) (rule .ending) (rule .replacement) (c .before .before .before .before .before .before .before .before .tried-at .ensures) (c .before .before .before .before .before .before .before .if2 .left) in
+    let inside = it .facts .inside in
+    let start = rule .place + 8 + rule .ending in
+    let long = length-take-le (start + rule .replacement - start) (drop start (a .sheet .now)) (omega (arith, length-drop start (a .sheet .now))) in
+    omega (arith, long, c .before .before .if4 .left, c .before .before .before .before .before .before .less .ensures)
+
+add-t24 : tie.Need-add-t24
+add-t24 c =
+    let long = c .before .before .before .before .before .before .before .before .before .before .before .before .before .before .before .before .before .before .before .good .1 .1 .1 .1 .1 .1 .0 .0 in
+    omega (arith, c .before .before .before .before .before .if4 .left, c .before .before .before .before .before .before .before .before .before .less .ensures, c .before .before .before .before .before .before .before .before .before .before .before .before .before .before .before .before .before .before .before .pre .1 .1 .1 .1 .1, long)
+
+same-length-5 : tie.Need-same-length-5
+same-length-5 c = search needs
+
+returns-5 : tie.Need-returns-5
+returns-5 c =
+    let a = c .before .before .before .before .before .before .before .before .before .before .before .before .before .before .before .before .before .before .before .args in
+    let rest = rulesOf (restAt (a .sheet .now) (a .at) (a .groups) (a .rules)) in
+    let within = c .before .before .before .before .before .before .before .before .before .before .before .before .before .before .before .before .before .before .before .pre .1 .1 .1 .1 .1 in
+    let rule = c .before .before .before .before .before .before .before .before .before .before .before .tried-at .result in
+    let it = some-picked-as (a .sheet .now) (picked (a .table .now) (a .root) (c .before .before .before .before .before .before .before .before .before .before .before .before .before .before .deepest .result) (take (a .size) (a .word .now)) (a .rules + 1) rest) (rule .place) (rule .action) (rule .opens) (rule .ending) (rule .replacement) (c .before .before .before .before .before .before .before .before .before .before .before .tried-at .ensures) (c .before .before .before .before .before .before .before .before .before .before .if2 .left) in
+    let inside = it .facts .inside in
+    let start = rule .place + 8 + rule .ending in
+    let size : start + rule .replacement - start ≡ rule .replacement = omega arith in
+    let long : length (take (rule .replacement) (drop start (a .sheet .now))) ≡ rule .replacement = length-take-le (rule .replacement) (drop start (a .sheet .now)) (omega (arith, length-drop start (a .sheet .now))) in
+    let room = rw (c .before .before .before .before .before .before .before .before .before .less .ensures) at (c .before .before .before .before .before .if4 .left) in
+    let stored = rw (size, long, c .before .before .before .before .before .before .before .before .before .less .ensures) at (c .before .before .copy-in .ensures) in
+    rw (c .before .before .before .before .before .before .before .before .before .less .ensures) (step-replace (a .table .now) (a .root) (a .rules + 1) (a .word .now) (a .size) rest (c .before .before .before .before .before .before .before .before .before .before .before .before .before .before .deepest .result) within (c .before .before .before .before .before .before .before .before .before .before .before .before .before .before .deepest .ensures) (a .sheet .now) (rule .place) (it .condition) (rule .action) (rule .opens) (rule .ending) (rule .replacement) (it .one) (it .facts) (c .before .before .before .before .before .before .before .before .before .before .before .before .before .if1 .left) (it .is-one) _ (c .before .before .before .before .before .before .if3 .left) room stored)
+
+pub walk-group-spec : {M : Type 1} → statement M
+walk-group-spec =
+    tie.close
+    (tie.spec
+    slice-reshare-prefix-deepest
+    slice-aggregate-deepest
+    deepest-requires
+    same-length
+    returns
+    slice-reshare-prefix-tried-at
+    slice-aggregate-tried-at
+    tried-at-requires
+    same-length-2
+    returns-2
+    less-requires
+    less-requires-2
+    same-length-3
+    returns-3
+    sub-if4
+    same-length-4
+    returns-4
+    add-start
+    add-start-2
+    add-end
+    sub-copy-in
+    part-copy-in-start
+    part-copy-in-end
+    copy-in-requires
+    add-t24
+    same-length-5
+    returns-5)

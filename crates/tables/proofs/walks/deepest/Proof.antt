@@ -1,0 +1,133 @@
+-- The deepest rule. The loop's invariant: the whole walk finds what the rest of it finds, or else what was found so far.
+-- Assumes nothing.
+use Prim.Native.Nat.{_<_, _≤_}
+use mathlib.Core.Path.{_≡_, sym, _∙_}
+use native.Mathlib.Omega.{arith}
+use borrow.Author.Needs.{needs}
+use lib.ListN.{length, take}
+use lib.Seq.{take-length}
+use Rattle.paper.specs.Letters.{inward}
+use Rattle.tables.specs.Walk.{deepest as deepestOf}
+use Rattle.tables.specs.WalkSteps.{orFound, deepest-start, turn-missing, turn-holding, turn-empty, word-over}
+use Rattle.tables.proofs.walks.deepest.Statement.{statement}
+use Rattle.tables.proofs.walks.deepest.Tie as tie
+
+abbrev Inv-loop : tie.InvT-loop
+Inv-loop table root word at₀ found₀ left₀ at found left =
+    (deepestOf table root (inward word) ≡ orFound table at found (inward (take left word))) × (at < 65536) × (left ≤ length word)
+
+abbrev μ-loop : tie.MeasureT-loop
+μ-loop table root word at₀ found₀ left₀ at found left = left
+
+mul-number-at : tie.Need-mul-number-at Inv-loop μ-loop
+mul-number-at c = omega arith
+
+add-number-at : tie.Need-add-number-at Inv-loop μ-loop
+add-number-at c = omega arith
+
+number-at-requires : tie.Need-number-at-requires Inv-loop μ-loop
+number-at-requires c κs = search needs
+
+loop-holds : tie.Need-loop-holds Inv-loop μ-loop
+loop-holds c =
+    let a = c .before .before .before .args in (
+      rw (c .number-at .ensures .0, take-length) (deepest-start (a .table .now) (a .root) (inward (a .word .now))),
+      omega arith,
+      omega arith,
+    )
+
+sub-left : tie.Need-sub-left Inv-loop μ-loop
+sub-left c = omega arith
+
+shared-slice-read-wide : tie.Need-shared-slice-read-wide Inv-loop μ-loop
+shared-slice-read-wide c = omega arith
+
+wide-requires : tie.Need-wide-requires Inv-loop μ-loop
+wide-requires c κs = search needs
+
+child-requires : tie.Need-child-requires Inv-loop μ-loop
+child-requires c κs = search needs
+
+returns : tie.Need-returns Inv-loop μ-loop
+returns c =
+    let a = c .before .before .before .before .before .before .before .before .before .args in
+    let turn = c .before .before .before .before .before .loop in
+    let more = c .before .before .before .before .loop-test .taken in
+    let last = c .before .before .wide .ensures in
+    let stepped = c .before .child .ensures .0 in
+    sym (turn .inv .0 ∙ turn-missing (a .table .now) (a .word .now) (turn .at) (turn .found) (turn .left) _ _ more (turn .inv .2) last stepped (c .if1 .taken))
+
+mul-number-at-2 : tie.Need-mul-number-at-2 Inv-loop μ-loop
+mul-number-at-2 c = omega arith
+
+add-number-at-2 : tie.Need-add-number-at-2 Inv-loop μ-loop
+add-number-at-2 c = omega arith
+
+number-at-requires-2 : tie.Need-number-at-requires-2 Inv-loop μ-loop
+number-at-requires-2 c κs = search needs
+
+loop-less : tie.Need-loop-less Inv-loop μ-loop
+loop-less c = omega arith
+
+loop-again : tie.Need-loop-again Inv-loop μ-loop
+loop-again c =
+    let a = c .before .before .before .before .before .before .before .before .before .before .before .args in
+    let turn = c .before .before .before .before .before .before .before .loop in
+    let more = c .before .before .before .before .before .before .loop-test .taken in
+    let last = c .before .before .before .before .wide .ensures in
+    let stepped = c .before .before .before .child .ensures in
+    let read = c .before .number-at2 .ensures .0 in (
+      turn .inv .0
+          ∙ turn-holding (a .table .now) (a .word .now) (turn .at) (turn .found) (turn .left) _ _ more (turn .inv .2) last (stepped .0) _ read
+          (c .before .before .if1 .left) (c .if2 .taken),
+      stepped .1,
+      omega arith,
+    )
+
+loop-less-2 : tie.Need-loop-less-2 Inv-loop μ-loop
+loop-less-2 c = omega arith
+
+loop-again-2 : tie.Need-loop-again-2 Inv-loop μ-loop
+loop-again-2 c =
+    let a = c .before .before .before .before .before .before .before .before .before .before .before .args in
+    let turn = c .before .before .before .before .before .before .before .loop in
+    let more = c .before .before .before .before .before .before .loop-test .taken in
+    let last = c .before .before .before .before .wide .ensures in
+    let stepped = c .before .before .before .child .ensures in
+    let read = c .before .number-at2 .ensures .0 in (
+      turn .inv .0
+          ∙ turn-empty (a .table .now) (a .word .now) (turn .at) (turn .found) (turn .left) _ _ more (turn .inv .2) last (stepped .0) _ read
+          (c .before .before .if1 .left) (c .if2 .left),
+      stepped .1,
+      omega arith,
+    )
+
+returns-2 : tie.Need-returns-2 Inv-loop μ-loop
+returns-2 c =
+    let turn = c .before .loop in
+    let none-left = word-over _ _ (turn .at) (turn .found) (turn .left) (c .loop-test .left) in
+    sym (turn .inv .0 ∙ none-left)
+
+pub deepest-spec : {M : Type 1} → statement M
+deepest-spec =
+    tie.close
+    (tie.spec
+    Inv-loop
+    μ-loop
+    mul-number-at
+    add-number-at
+    number-at-requires
+    loop-holds
+    sub-left
+    shared-slice-read-wide
+    wide-requires
+    child-requires
+    returns
+    mul-number-at-2
+    add-number-at-2
+    number-at-requires-2
+    loop-less
+    loop-again
+    loop-less-2
+    loop-again-2
+    returns-2)

@@ -1,0 +1,122 @@
+-- The answers, one by one. Assumes nothing.
+use mathlib.Core.Path.{refl, sym}
+use native.Mathlib.Omega.{arith}
+use lib.ListN.{length}
+use lib.Seq.{length-take-le}
+use Rattle.tables.specs.Walk.{walkWord}
+use Rattle.tables.specs.Answers.{groupsOf}
+use Rattle.tables.specs.RanLaws.{
+  ran-empty,
+  ran-long,
+  ran-letter,
+  ran-longer,
+  ran-done,
+  left-of,
+  outgrown-of,
+  placed-letters,
+  word-back,
+}
+use borrow.Author.Needs.{needs}
+use Rattle.tables.proofs.words.word_run.Statement.{statement}
+use Rattle.tables.proofs.words.word_run.Tie as tie
+
+returns : tie.Need-returns
+returns c =
+    let a = c .before .before .before .before .args in
+    let reading = walkWord (a .table .now) (groupsOf (a .sheet .now)) in
+    ran-empty reading (a .word .now) (c .if1 .taken)
+
+returns-2 : tie.Need-returns-2
+returns-2 c =
+    let a = c .before .before .before .before .before .args in
+    let reading = walkWord (a .table .now) (groupsOf (a .sheet .now)) in
+    ran-long reading (a .word .now) (c .if2 .taken)
+
+first-other-requires : tie.Need-first-other-requires
+first-other-requires c κs = search needs
+
+same-length : tie.Need-same-length
+same-length c = search needs
+
+returns-3 : tie.Need-returns-3
+returns-3 c =
+    let a = c .before .before .before .before .before .before .before .before .args in
+    let reading = walkWord (a .table .now) (groupsOf (a .sheet .now)) in
+    ran-letter reading (a .word .now) (c .before .before .before .before .if1 .left) (c .before .before .before .if2 .left) _ (c .before .first-other .ensures) (c .if3 .taken)
+
+slice-aggregate-copy-in : tie.Need-slice-aggregate-copy-in
+slice-aggregate-copy-in c = search needs
+
+copy-in-requires : tie.Need-copy-in-requires
+copy-in-requires c κs = search needs
+
+walk-groups-requires : tie.Need-walk-groups-requires
+walk-groups-requires c κs = search needs
+
+enum-known-walked : tie.Need-enum-known-walked
+enum-known-walked c = search needs
+
+fill-requires : tie.Need-fill-requires
+fill-requires c κs =
+    let a = c .before .before .before .before .before .before .before .before .before .before .before .before .before .before .before .before .before .before .before .before .args in
+    let reading = walkWord (a .table .now) (groupsOf (a .sheet .now)) in
+    left-of (reading (a .word .now)) _ _ _ (c .before .before .before .before .before .before .walk-groups .ensures) (c .before .before .walked .given .1) .within
+
+enum-told : tie.Need-enum-told
+enum-told c = search needs
+
+array-share-prefix-saved : tie.Need-array-share-prefix-saved
+array-share-prefix-saved c = search needs
+
+slice-aggregate-copy-in-2 : tie.Need-slice-aggregate-copy-in-2
+slice-aggregate-copy-in-2 c = sym (length-take-le (length (c .before .before .before .before .before .before .before .before .before .before .before .before .before .before .before .before .before .before .before .before .args .word .now)) (c .before .before .before .before .before .before .before .before .before .copy-in .last .0) (omega (arith, c .before .before .before .before .before .before .before .before .before .copy-in .kept .0, c .before .before .before .before .before .before .before .before .before .before .before .before .before .before .before .if2 .left)))
+
+copy-in-requires-2 : tie.Need-copy-in-requires-2
+copy-in-requires-2 c κs =
+    let long = length-take-le (length (c .before .before .before .before .before .before .before .before .before .before .before .before .before .before .before .before .before .before .before .before .args .word .now)) (c .before .before .before .before .before .before .before .before .before .copy-in .last .0) (omega (arith, c .before .before .before .before .before .before .before .before .before .copy-in .kept .0, c .before .before .before .before .before .before .before .before .before .before .before .before .before .before .before .if2 .left)) in
+    omega (arith, long, c .before .before .before .before .before .before .walk-groups .kept .1 .1 .0)
+
+same-length-2 : tie.Need-same-length-2
+same-length-2 c = search needs
+
+returns-4 : tie.Need-returns-4
+returns-4 c =
+    let a = c .before .before .before .before .before .before .before .before .before .before .before .before .before .before .before .before .before .before .before .before .before .before .before .args in
+    let reading = walkWord (a .table .now) (groupsOf (a .sheet .now)) in
+    let left = left-of (reading (a .word .now)) _ _ _ (c .before .before .before .before .before .before .before .before .before .walk-groups .ensures) (c .before .before .before .before .before .walked .given .1) in
+    let filled = placed-letters (a .word .now) (left .stem) _ _ _ (left .letters) (left .within) (c .before .before .before .before .before .before .before .before .before .walk-groups .kept .1 .1 .0) (c .before .before .fill .ensures) in
+    ran-done reading (a .word .now) (c .before .before .before .before .before .before .before .before .before .before .before .before .before .before .before .before .before .before .before .if1 .left) (c .before .before .before .before .before .before .before .before .before .before .before .before .before .before .before .before .before .before .if2 .left) _ (c .before .before .before .before .before .before .before .before .before .before .before .before .before .before .before .before .first-other .ensures) (c .before .before .before .before .before .before .before .before .before .before .before .before .before .before .before .if3 .left) (left .stem) _ _ (left .is-done) (filled .1) (filled .0)
+
+same-length-3 : tie.Need-same-length-3
+same-length-3 c = search needs
+
+returns-5 : tie.Need-returns-5
+returns-5 c =
+    let a = c .before .before .before .before .before .before .before .before .before .before .before .before .before .before .before .before .before .before .before .before .before .before .before .args in
+    let reading = walkWord (a .table .now) (groupsOf (a .sheet .now)) in
+    let out = outgrown-of (reading (a .word .now)) _ _ (c .before .before .before .before .before .before .before .before .before .walk-groups .ensures) (c .before .before .before .before .before .enum-told .given .1) in
+    let back = word-back (a .word .now) _ _ _ _ _ refl (omega arith) (c .before .before .before .before .before .before .before .before .before .before .before .before .copy-in .ensures) (c .before .before .before .before .before .before .before .before .before .walk-groups .kept .1 .1 .0) (c .before .before .copy-in2 .ensures) in
+    ran-longer reading (a .word .now) (c .before .before .before .before .before .before .before .before .before .before .before .before .before .before .before .before .before .before .before .if1 .left) (c .before .before .before .before .before .before .before .before .before .before .before .before .before .before .before .before .before .before .if2 .left) _ (c .before .before .before .before .before .before .before .before .before .before .before .before .before .before .before .before .first-other .ensures) (c .before .before .before .before .before .before .before .before .before .before .before .before .before .before .before .if3 .left) _ out back
+
+pub word-run-spec : {M : Type 1} → statement M
+word-run-spec =
+    tie.close
+    (tie.spec
+    returns
+    returns-2
+    first-other-requires
+    same-length
+    returns-3
+    slice-aggregate-copy-in
+    copy-in-requires
+    walk-groups-requires
+    enum-known-walked
+    fill-requires
+    enum-told
+    array-share-prefix-saved
+    slice-aggregate-copy-in-2
+    copy-in-requires-2
+    same-length-2
+    returns-4
+    same-length-3
+    returns-5)

@@ -1,0 +1,102 @@
+-- What the run of a table answers, case by case. Assumes nothing.
+use Prim.Native.Nat.{ℕ, _*_, _<_}
+use mathlib.Core.Path.{_≡_, refl, sym, ap, _∙_}
+use mathlib.Core.Bool.{Bool, true, false}
+use mathlib.Core.List.{List, _++_}
+use native.Mathlib.Omega.{arith}
+use lib.Dec.{ltb}
+use lib.ListN.{length, take, drop}
+use lib.Seq.{take-at, take-all}
+use borrow.Author.Tests.{ltb-true}
+use Rattle.paper.specs.Groups.{same}
+use Rattle.paper.specs.Words.{wordOutcome}
+use Rattle.sheets.specs.Sheets.{Sheet, refused, accepted, readSheet}
+use Rattle.sheets.specs.Nodes.{nodeCount}
+use Rattle.tables.specs.Layout.{tableOf}
+use Rattle.tables.specs.Walk.{walkWord}
+use Rattle.tables.specs.Answers.{laidOut, translationOf, translation, groupsIn, groupsOf}
+use Rattle.tables.specs.TestLaws.{by-test}
+use Rattle.tables.specs.CountLaws.{table-length}
+use Rattle.tables.specs.GoingLaws.{Accepted, small-table}
+use Rattle.tables.specs.RunAnswers.{rightTable, runOf, runOutcome}
+use Rattle.tables.specs.RanAnswers.{RanAs}
+use Rattle.tables.specs.RunSteps.{same-long}
+use Rattle.tables.specs.declared.Ran.{Ran}
+use Rattle.tables.specs.declared.Ran.the-variants.{Refused as RanRefused, Table}
+use Rattle.tables.specs.declared.Translated.the-variants.{Nodes, Refused, Short}
+
+-- What the translation's answer says of the sheet
+
+refused-by : (found : Sheet) (own : List ℕ) (place : ℕ) → Refused place ≡ translationOf found own .answer → found ≡ refused place
+unfolding translationOf
+refused-by (refused other) own place e = cc
+refused-by (accepted groups) own place e =
+    by-test (ltb (length own) (4 * nodeCount groups))
+    (λ p. let given : Refused place ≡ Short = rw p at e in let z : _≡_ {A = ℕ} 0 1 = cc in absurd (omega arith))
+    (λ p. let given : Refused place ≡ Nodes (nodeCount groups) = rw p at e in let z : _≡_ {A = ℕ} 0 1 = cc in absurd (omega arith))
+
+short-by : (found : Sheet) (own : List ℕ) → Short ≡ translationOf found own .answer → (found ≡ accepted (groupsIn found)) × (length own < 4 * nodeCount (groupsIn found))
+unfolding translationOf groupsIn
+short-by (refused other) own e = let z : _≡_ {A = ℕ} 0 1 = cc in absurd (omega arith)
+short-by (accepted groups) own e =
+    by-test (ltb (length own) (4 * nodeCount groups)) (λ p. (refl, ltb-true _ _ p))
+    (λ p. let given : Short ≡ Nodes (nodeCount groups) = rw p at e in let z : _≡_ {A = ℕ} 0 1 = cc in absurd (omega arith))
+
+nodes-by : (found : Sheet) (own : List ℕ) (nodes : ℕ) → Nodes nodes ≡ translationOf found own .answer
+    → (found ≡ accepted (groupsIn found)) × (nodes ≡ nodeCount (groupsIn found)) × (translationOf found own .table ≡ laidOut (groupsIn found) own)
+unfolding translationOf groupsIn
+nodes-by (refused other) own nodes e = let z : _≡_ {A = ℕ} 0 1 = cc in absurd (omega arith)
+nodes-by (accepted groups) own nodes e =
+    by-test (ltb (length own) (4 * nodeCount groups))
+    (λ p. let given : Nodes nodes ≡ Short = rw p at e in let z : _≡_ {A = ℕ} 0 1 = cc in absurd (omega arith))
+    (λ p. let given : Nodes nodes ≡ Nodes (nodeCount groups) = rw p at e in (refl, cc, rw p))
+
+module _ (sheet own table word : List ℕ) where
+  pub run-refused : (place : ℕ) → Refused place ≡ translation sheet own .answer → RanAs (runOutcome sheet table word) (RanRefused place) word
+  unfolding translation runOutcome runOf
+  run-refused place e = rw (refused-by (readSheet sheet) own place e) (record { number-is = refl; value-is = refl; place-is = refl })
+
+  pub never-short : length own ≡ 6208 → Short ≡ translation sheet own .answer → ⊥
+  unfolding translation groupsOf
+  never-short long e =
+      let is = short-by (readSheet sheet) own e in
+      omega (arith, small-table sheet (is .0), is .1)
+
+  module _ (nodes : ℕ) (e : Nodes nodes ≡ translation sheet own .answer) where
+    pub run-accepted : Accepted sheet × (nodes ≡ nodeCount (groupsOf sheet))
+    unfolding translation groupsOf
+    run-accepted = let is = nodes-by (readSheet sheet) own nodes e in (is .0, is .1)
+
+    laid : translation sheet own .table ≡ tableOf (groupsOf sheet) ++ drop (4 * nodeCount (groupsOf sheet)) own
+    unfolding translation groupsOf laidOut
+    laid = nodes-by (readSheet sheet) own nodes e .2
+
+    -- the first numbers of the translated table are the sheet's
+    pub own-front : (after : List ℕ) → after ≡ translation sheet own .table → take (4 * nodes) after ≡ tableOf (groupsOf sheet)
+    own-front after there =
+        rw (there ∙ laid, run-accepted .1)
+        (take-at (tableOf (groupsOf sheet)) (drop (4 * nodeCount (groupsOf sheet)) own) (4 * nodeCount (groupsOf sheet)) (table-length (groupsOf sheet)))
+
+    wrong : rightTable (groupsOf sheet) table ≡ false → RanAs (runOutcome sheet table word) Table word
+    unfolding runOutcome runOf
+    wrong w = rw (run-accepted .0, w) (record { number-is = refl; value-is = refl; place-is = refl })
+
+    pub run-missing : length table < 4 * nodes → RanAs (runOutcome sheet table word) Table word
+    unfolding rightTable
+    run-missing h =
+        wrong (same-long (take (4 * nodeCount (groupsOf sheet)) table) (tableOf (groupsOf sheet))
+        (λ z. let all = ap length (take-all (4 * nodeCount (groupsOf sheet)) table (omega (arith, run-accepted .1))) in
+        omega (arith, run-accepted .1, table-length (groupsOf sheet), all)))
+
+    module _ (after : List ℕ) (there : after ≡ translation sheet own .table) (test : Bool) (compared : test ≡ same (take (4 * nodes) table) (take (4 * nodes) after)) where
+      right-by : rightTable (groupsOf sheet) table ≡ test
+      unfolding rightTable
+      right-by = sym (compared ∙ rw (own-front after there, run-accepted .1))
+
+      pub run-other : test ≡ false → RanAs (runOutcome sheet table word) Table word
+      run-other t = wrong (right-by ∙ t)
+
+      pub run-right : (ran : Ran) (left : List ℕ) → test ≡ true
+          → RanAs (wordOutcome (walkWord (take (4 * nodes) table) (groupsOf sheet)) word) ran left → RanAs (runOutcome sheet table word) ran left
+      unfolding runOutcome runOf
+      run-right ran left t ran-as = rw (run-accepted .0, right-by ∙ t, ← run-accepted .1) ran-as

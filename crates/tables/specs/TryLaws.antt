@@ -1,0 +1,161 @@
+-- Trying the rules of a group in sheet order, record by record. Assumes nothing.
+use Prim.Native.Nat.{ℕ, suc, _+_, _-_, _≤_, _<_}
+use mathlib.Core.Path.{_≡_, refl, sym, ap, _∙_}
+use mathlib.Core.Bool.{Bool, true, false, _&&_, and-false}
+use borrow.Author.Tests.{lt-leb, le-leb, eq-eqb, ne-eqb}
+use mathlib.Core.List.{List, [], _∷_}
+use mathlib.Core.Option.{Option, none, some}
+use native.Mathlib.Numerals.{add-one}
+use native.Mathlib.Omega.{arith}
+use lib.Dec.{eqb, leb}
+use lib.ListN.{length, take, drop}
+use Rattle.paper.specs.Conditions.{holds}
+use Rattle.paper.specs.Groups.{Rule, Group, before}
+use Rattle.sheets.specs.Records.{body, rule}
+use Rattle.sheets.specs.Sheets.{Rest, faulty-at, holding, readRest}
+use Rattle.sheets.specs.RecordLaws.{GroupHere, EndHere}
+use Rattle.sheets.specs.Answers.{recordIn}
+use Rattle.sheets.specs.RecordLaws.{rule-here}
+use Rattle.sheets.specs.declared.records.Record.the-variants.{Rule as RuleRecord}
+use Rattle.tables.specs.Walk.{reached, held}
+use Rattle.tables.specs.PickLaws.{pick}
+use Rattle.tables.specs.SheetPlaces.{Holding, RuleNext, group-next, rule-next, end-next}
+use Rattle.tables.specs.RulePlaces.{RuleFacts, rule-facts}
+
+-- the rules up to the next group, and the groups, that the rest of a sheet holds
+unfoldable pub rulesOf : Rest → List Rule
+rulesOf (faulty-at place) = []
+rulesOf (holding rules groups) = rules
+
+unfoldable pub groupsAfter : Rest → List Group
+groupsAfter (faulty-at place) = []
+groupsAfter (holding rules groups) = groups
+
+abbrev pub restAt : List ℕ → ℕ → ℕ → ℕ → Rest
+restAt sheet at groups rules = readRest (length (drop at sheet)) groups rules at (drop at sheet)
+
+-- the rest of the sheet is not refused
+abbrev pub Readable : List ℕ → ℕ → ℕ → ℕ → Type 0
+Readable sheet at groups rules = restAt sheet at groups rules ≡ holding (rulesOf (restAt sheet at groups rules)) (groupsAfter (restAt sheet at groups rules))
+
+-- whether a rule of this number, condition and ending is the one that a walk which found `found` obeys
+unfoldable pub obeys : List ℕ → ℕ → ℕ → List ℕ → ℕ → ℕ → List ℕ → Bool
+obeys table root found word number condition s1 =
+    leb found number && (eqb found (held table (reached table root s1)) && holds condition (before word s1))
+
+-- the first such rule, of rules that are counted from `number`
+unfoldable pub picked : List ℕ → ℕ → ℕ → List ℕ → ℕ → List Rule → Option Rule
+picked table root found word number rules =
+    pick (λ rule. eqb found (held table (reached table root (rule .ending)))) (λ rule. holds (rule .condition) (before word (rule .ending))) found number rules
+
+-- what is handed back of the rule that was picked: the place of its record, or 0, and its numbers
+abbrev pub PickedAs : List ℕ → Option Rule → ℕ → ℕ → ℕ → ℕ → ℕ → Type 0
+PickedAs sheet none place action opens s1 s2 = place ≡ 0
+PickedAs sheet (some one) place action opens s1 s2 = (0 < place) × (condition : ℕ) × RuleFacts sheet place condition action opens s1 s2 one
+
+pub record Trying (table : List ℕ) (root found : ℕ) (word sheet : List ℕ) (groups start first place rules : ℕ) : Type 0 where
+  pub list : List Rule
+  pub more : List Group
+  pub holds-here : Holding sheet place groups rules list more
+  pub decides : picked table root found word (rules + 1) list ≡ picked table root found word (first + 1) (rulesOf (restAt sheet start groups first))
+
+pub trying-start : (table : List ℕ) (root found : ℕ) (word sheet : List ℕ) (groups start first : ℕ) → Readable sheet start groups first
+    → Trying table root found word sheet groups start first start first
+trying-start table root found word sheet groups start first is =
+    record { list = rulesOf (restAt sheet start groups first); more = groupsAfter (restAt sheet start groups first); holds-here = is; decides = refl }
+
+picked-none : (table : List ℕ) (root found : ℕ) (word : List ℕ) (number : ℕ) (list : List Rule) → list ≡ [] → picked table root found word number list ≡ none
+unfolding picked pick
+picked-none table root found word number list e = rw e
+
+picked-here : (table : List ℕ) (root found : ℕ) (word : List ℕ) (number : ℕ) (list : List Rule) (one : Rule) (more : List Rule) → list ≡ one ∷ more
+    → obeys table root found word number (one .condition) (one .ending) ≡ true → picked table root found word number list ≡ some one
+unfolding picked pick obeys
+picked-here table root found word number list one more e t = rw (e, t)
+
+picked-next : (table : List ℕ) (root found : ℕ) (word : List ℕ) (number : ℕ) (list : List Rule) (one : Rule) (more : List Rule) → list ≡ one ∷ more
+    → obeys table root found word number (one .condition) (one .ending) ≡ false
+    → picked table root found word number list ≡ picked table root found word (suc number) more
+unfolding picked pick obeys
+picked-next table root found word number list one more e t = rw (e, t)
+
+module _ (table : List ℕ) (root found : ℕ) (word sheet : List ℕ) (groups start first place rules : ℕ)
+    (state : Trying table root found word sheet groups start first place rules) where
+  abbrev answer : Option Rule
+  answer = picked table root found word (first + 1) (rulesOf (restAt sheet start groups first))
+
+  none-picked : state .list ≡ [] → answer ≡ none
+  none-picked e = sym (state .decides) ∙ picked-none table root found word (rules + 1) (state .list) e
+
+  pub trying-group : (number : ℕ) → GroupHere (drop place sheet) number → answer ≡ none
+  trying-group number here = none-picked (group-next sheet place groups rules (state .list) (state .more) (state .holds-here) number here .none-before)
+
+  pub trying-end : EndHere (drop place sheet) → answer ≡ none
+  trying-end here = none-picked (end-next sheet place groups rules (state .list) (state .more) (state .holds-here) here .0)
+
+  module _ (c a o s1 s2 : ℕ) (e : recordIn (drop place sheet) ≡ RuleRecord c a o s1 s2) where
+    abbrev next : RuleNext sheet place groups rules s1 s2 (state .list) (state .more)
+    next = rule-next sheet place groups rules (state .list) (state .more) (state .holds-here) s1 s2 (rule-here (drop place sheet) c a o s1 s2 e)
+
+    abbrev facts : RuleFacts sheet place c a o s1 s2 (rule (body (drop place sheet)))
+    facts = rule-facts sheet place c a o s1 s2 e
+
+    pub trying-inside : (place + (8 + s1 + s2) ≤ length sheet) × (rules < 128)
+    trying-inside = (next .inside, next .few)
+
+    tested : (test : Bool) → obeys table root found word (rules + 1) c (take s1 (drop (place + 8) sheet)) ≡ test
+        → obeys table root found word (rules + 1) (next .one .condition) (next .one .ending) ≡ test
+    tested test t =
+        let same-condition : next .one .condition ≡ c = ap (λ (one : Rule). one .condition) (next .is-here) ∙ facts .condition-is in
+        rw (same-condition, ← next .ending-here) t
+
+    pub trying-here : obeys table root found word (rules + 1) c (take s1 (drop (place + 8) sheet)) ≡ true → answer ≡ some (rule (body (drop place sheet)))
+    trying-here t =
+        sym (state .decides)
+        ∙ picked-here table root found word (rules + 1) (state .list) (next .one) (next .rules-then) (next .rule-first) (tested true t)
+        ∙ ap some (next .is-here)
+
+    pub trying-next : obeys table root found word (rules + 1) c (take s1 (drop (place + 8) sheet)) ≡ false
+        → Trying table root found word sheet groups start first (place + (8 + s1 + s2)) (rules + 1)
+    trying-next t =
+        let passed = picked-next table root found word (rules + 1) (state .list) (next .one) (next .rules-then) (next .rule-first) (tested false t) in
+        record {
+          list = next .rules-then;
+          more = state .more;
+          holds-here = next .holds;
+          decides = ap (λ (n : ℕ). picked table root found word n (next .rules-then)) (add-one (rules + 1)) ∙ sym passed ∙ state .decides;
+        }
+
+-- One rule, test by test
+
+module _ (table : List ℕ) (root found : ℕ) (word : List ℕ) (number condition : ℕ) (s1 : List ℕ) where
+  pub obeys-early : number < found → obeys table root found word number condition s1 ≡ false
+  unfolding obeys
+  obeys-early h = rw (lt-leb found number h)
+
+  pub obeys-other : (there : ℕ) → there ≡ held table (reached table root s1) → (found ≡ there → ⊥) → obeys table root found word number condition s1 ≡ false
+  unfolding obeys
+  obeys-other there e h = rw (← e, ne-eqb found there h, and-false)
+
+  pub obeys-judged : (there : ℕ) (answer : Bool) (part : ℕ) → found ≤ number → there ≡ held table (reached table root s1) → found ≡ there
+      → part ≡ length word - length s1 → answer ≡ holds condition (take part word) → answer ≡ obeys table root found word number condition s1
+  unfolding obeys before
+  obeys-judged there answer part h e f p j = rw (le-leb found number h, ← e, eq-eqb found there f, ← p) j
+
+-- What was handed back says whether a rule was picked, and which
+
+pub none-picked-as : (sheet : List ℕ) (found : Option Rule) (place action opens s1 s2 : ℕ) → PickedAs sheet found place action opens s1 s2
+    → place ≡ 0 → found ≡ none
+none-picked-as sheet none place action opens s1 s2 is e = refl
+none-picked-as sheet (some one) place action opens s1 s2 is e = let h = is .0 in absurd (omega arith)
+
+pub record Some (sheet : List ℕ) (found : Option Rule) (place action opens s1 s2 : ℕ) : Type 0 where
+  pub one : Rule
+  pub condition : ℕ
+  pub is-one : found ≡ some one
+  pub facts : RuleFacts sheet place condition action opens s1 s2 one
+
+pub some-picked-as : (sheet : List ℕ) (found : Option Rule) (place action opens s1 s2 : ℕ) → PickedAs sheet found place action opens s1 s2
+    → (place ≡ 0 → ⊥) → Some sheet found place action opens s1 s2
+some-picked-as sheet none place action opens s1 s2 is e = absurd (e is)
+some-picked-as sheet (some one) place action opens s1 s2 is e = record { one = one; condition = is .1; is-one = refl; facts = is .2 }

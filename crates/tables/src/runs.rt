@@ -1,0 +1,275 @@
+// The run of a table on a word, group by group.
+ghost use mathlib.Core.Path.{_≡_};
+ghost use Prim.Native.Nat.{_+_, _-_, _<_, _≤_};
+ghost use lib.ListN.{length, take, drop};
+ghost use lib.Seq.{paste};
+ghost use Rattle.paper.specs.Groups.{same};
+ghost use Rattle.tables.specs.Answers.{groupsOf};
+ghost use Rattle.tables.specs.GoingLaws.{Accepted};
+ghost use Rattle.tables.specs.Walk.{walkGroup, walkWord};
+ghost use Rattle.tables.specs.WalkAnswers.{WalkedAs};
+ghost use Rattle.tables.specs.StepLaws.{Stepped};
+ghost use Rattle.tables.specs.TryLaws.{Readable, PickedAs, picked, rulesOf, restAt, obeys as obeysOf};
+use crate::walks::deepest;
+use crate::walks::held_at;
+use sheets::reader::draw;
+use sheets::records::Record;
+
+// Whether two tables have the same numbers.
+pub fn same_numbers(one: &[u16], other: &[u16]) -> bool
+    ensures { λ r. ⌜ r ≡ same (now (one .entry)) (now (other .entry)) ⌝ }
+{
+    if one.len() != other.len() {
+        return false;
+    }
+    let mut i = 0;
+    while i < one.len() {
+        if one[i] != other[i] {
+            return false;
+        }
+        i += 1;
+    }
+    true
+}
+
+// What is left of a number after another is taken away, or 0.
+fn less(one: usize, other: usize) -> usize
+    ensures { λ r. ⌜ r ≡ one - other ⌝ }
+{
+    if other < one { one - other } else { 0 }
+}
+
+// Whether the rule of this number, whose record stands at `place`, is the one that a walk which found `found` obeys.
+fn obeys(
+    sheet: &[u8],
+    place: usize,
+    condition: u8,
+    ending: usize,
+    number: usize,
+    table: &[u16],
+    root: usize,
+    found: usize,
+    word: &[u8],
+) -> bool
+    requires { ⌜ (place + 8 + ending ≤ length (now sheet)) × (root < 65536) ⌝ }
+    ensures { λ r. ⌜ r ≡ obeysOf (now (table .entry)) root found (now (word .entry)) number condition (take ending (drop (place + 8) (now (sheet .entry)))) ⌝ }
+{
+    if number < found {
+        return false;
+    }
+    let start = place + 8;
+    let end = start + ending;
+    if found != held_at(table, root, &sheet[start..end]) {
+        return false;
+    }
+    let part = less(word.len(), ending);
+    letters::holds(condition, &word[..part])
+}
+
+// A rule that was found in the sheet: the place of its record, or 0 for none, and its numbers.
+struct Found {
+    place: usize,
+    action: u8,
+    opens: u8,
+    ending: usize,
+    replacement: usize,
+}
+
+// No rule.
+fn nothing() -> Found
+    ensures { λ r. ⌜ r .place ≡ 0 ⌝ }
+{
+    Found {
+        place: 0,
+        action: 0,
+        opens: 0,
+        ending: 0,
+        replacement: 0,
+    }
+}
+
+// The rule that a walk which found `found` obeys, of those that stand from `at` up to the next group.
+fn tried_at(
+    sheet: &[u8],
+    at: usize,
+    groups: usize,
+    rules: usize,
+    table: &[u16],
+    root: usize,
+    found: usize,
+    word: &[u8],
+) -> Found
+    requires { ⌜ Readable (now sheet) at groups rules × ((0 < at) × ((at ≤ length (now sheet)) × ((rules ≤ 128) × (root < 65536)))) ⌝ }
+    ensures { λ r. ⌜ PickedAs (now (sheet .entry)) (picked (now (table .entry)) root found (now (word .entry)) (rules + 1) (rulesOf (restAt (now (sheet .entry)) at groups rules))) (r .place) (r .action) (r .opens) (r .ending) (r .replacement) ⌝ }
+{
+    let mut place = at;
+    let mut number = rules;
+    while place < sheet.len() {
+        let record = draw(sheet, place);
+        match record {
+            Record::Group(_) => return nothing(),
+            Record::Rule {
+                condition,
+                action,
+                opens,
+                ending,
+                replacement,
+            } => {
+                number += 1;
+                if obeys(
+                    sheet,
+                    place,
+                    condition,
+                    ending,
+                    number,
+                    table,
+                    root,
+                    found,
+                    word,
+                ) {
+                    return Found {
+                        place,
+                        action,
+                        opens,
+                        ending,
+                        replacement,
+                    };
+                }
+                place += 8 + ending + replacement;
+            }
+            Record::End => return nothing(),
+            Record::Faulty => return nothing(),
+        }
+    }
+    nothing()
+}
+
+// Copies letters to a place of the word.
+pub fn copy_in(word: &mut [u8], at: usize, from: &[u8])
+    requires { ⌜ at + length (now from) ≤ length (now word) ⌝ }
+    ensures { λ r. ⌜ now (word .exit) ≡ paste (now (word .entry)) at (now (from .entry)) (length (now (from .entry))) ⌝ }
+{
+    let mut i = 0;
+    while i < from.len() {
+        word[at + i] = from[i];
+        i += 1;
+    }
+}
+
+// What a group leaves: the letters that stand first in the word's place, whether the next group is opened, and whether the
+// result fits the place.
+struct Step {
+    size: usize,
+    opened: bool,
+    fits: bool,
+}
+
+// Walks a group, whose rules stand from `at` on, on the first `size` letters of the word.
+fn walk_group(
+    sheet: &[u8],
+    at: usize,
+    groups: usize,
+    rules: usize,
+    table: &[u16],
+    root: usize,
+    word: &mut [u8],
+    size: usize,
+) -> Step
+    requires { ⌜ Readable (now sheet) at groups rules × ((0 < at) × ((at ≤ length (now sheet)) × ((rules ≤ 128) × ((root < 65536) × (size ≤ length (now word)))))) ⌝ }
+    ensures { λ r. ⌜ Stepped (walkGroup (now (table .entry)) root (rules + 1) (take size (now (word .entry))) (rulesOf (restAt (now (sheet .entry)) at groups rules))) (length (now (word .entry))) (now (word .exit)) (r .size) (r .opened) (r .fits) ⌝ }
+{
+    let found = deepest(table, root, &word[..size]);
+    if found == 0 {
+        return Step {
+            size,
+            opened: false,
+            fits: true,
+        };
+    }
+    let rule = tried_at(sheet, at, groups, rules, table, root, found, &word[..size]);
+    let place = rule.place;
+    if place == 0 {
+        return Step {
+            size,
+            opened: false,
+            fits: true,
+        };
+    }
+    let ending = rule.ending;
+    let part = less(size, ending);
+    let opened = rule.opens == 1;
+    if rule.action != 0 {
+        return Step {
+            size: less(part, 1),
+            opened,
+            fits: true,
+        };
+    }
+    let added = rule.replacement;
+    if word.len() - part < added {
+        return Step {
+            size,
+            opened,
+            fits: false,
+        };
+    }
+    let start = place + 8 + ending;
+    let end = start + added;
+    copy_in(word, part, &sheet[start..end]);
+    Step {
+        size: part + added,
+        opened,
+        fits: true,
+    }
+}
+
+// What walking all groups leaves: so many letters, which stand first in the word's place, or a result that does not fit it.
+pub enum Walked {
+    Left(usize),
+    Outgrown,
+}
+
+// Walks all groups of a sheet on a word, in its own place.
+pub fn walk_groups(sheet: &[u8], table: &[u16], word: &mut [u8]) -> Walked
+    requires { ⌜ Accepted (now sheet) ⌝ }
+    ensures { λ r. ⌜ WalkedAs (walkWord (now (table .entry)) (groupsOf (now (sheet .entry))) (now (word .entry))) r (now (word .exit)) ⌝ }
+{
+    let mut at = 0;
+    let mut next = 0;
+    let mut rules = 0;
+    let mut opened = false;
+    let mut size = word.len();
+    while at < sheet.len() {
+        let found = draw(sheet, at);
+        match found {
+            Record::Group(gate) => {
+                let root = next;
+                at += 6;
+                next += 1;
+                if (gate == 0) | opened {
+                    let step = walk_group(sheet, at, next, rules, table, root, word, size);
+                    if !step.fits {
+                        return Walked::Outgrown;
+                    }
+                    size = step.size;
+                    opened = step.opened;
+                } else {
+                    opened = false;
+                }
+            }
+            Record::Rule {
+                condition: _,
+                action: _,
+                opens: _,
+                ending,
+                replacement,
+            } => {
+                rules += 1;
+                at += 8 + ending + replacement;
+            }
+            Record::End => return Walked::Left(size),
+            Record::Faulty => return Walked::Outgrown,
+        }
+    }
+    Walked::Outgrown
+}
