@@ -126,3 +126,5 @@ TABLES = [
     ((RUN, ALWAYS + rule(b"", b"e") + CLOSE, [0, 0, 0, 1], b"hop"), (4, 0, b"hop")),
     ((RUN, CLOSE, [], b"cats"), (0, 4, b"cats")),
 ]
+
+ALL = WORDS + TEXTS + SHEETS + TABLES

@@ -7,6 +7,7 @@
 mod input;
 mod output;
 mod sheet;
+mod table;
 mod text;
 mod word;
 
@@ -19,6 +20,8 @@ fn answered(kind: u8) -> bool {
         2 => text::answered_run(),
         3 => text::answered_next(),
         4 => sheet::answered(),
+        5 => table::answered_translation(),
+        6 => table::answered_run(),
         _ => false,
     }
 }

@@ -11,6 +11,8 @@ use Rattle.paper.specs.Words.{Outcome, refused, wordOutcome, readWord, outcome,
 use Rattle.paper.specs.Shipped.{shipped}
 use Rattle.sheets.specs.Sheets.{Sheet, refused as faulty, accepted, readSheet}
 use Rattle.sheets.specs.Nodes.{nodeCount}
+use Rattle.sheets.specs.Bytes.{sheetOf}
+use Rattle.sheets.specs.ShippedSheet.{reads}
 use Rattle.tables.specs.Layout.{tableOf}
 use Rattle.tables.specs.Walk.{walkWord}
 use Rattle.tables.specs.Answers.{laidOut}
@@ -51,3 +53,7 @@ pub run-stems : (sheet table word : List ℕ) → readSheet sheet ≡ accepted s
     → runOutcome sheet table word ≡ outcome word
 unfolding outcome stem
 run-stems sheet table word is right = run-reads sheet table word shipped is right
+
+pub shipped-stems : (table word : List ℕ) → rightTable shipped table ≡ true
+    → runOutcome (sheetOf shipped) table word ≡ outcome word
+shipped-stems table word right = run-stems (sheetOf shipped) table word reads right

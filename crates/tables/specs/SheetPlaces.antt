@@ -17,7 +17,8 @@ use Rattle.sheets.specs.RecordLaws.{GroupHere, RuleHere, EndHere}
 use Rattle.sheets.specs.RuleLaws.{sound, group-length, length-ending, length-replacement}
 use Rattle.sheets.specs.SheetLaws.{fault-alone, group-fault, rule-fault, fault-step, group-step, rule-step, end-step, enough, faulty-empty}
 use Rattle.sheets.specs.Earlier.{endingIn, ending-in}
-use Rattle.sheets.specs.WriteBack.{WrittenAs, not-read, is-read, rest-written, rule-record, few-groups, few-rules}
+use Rattle.sheets.specs.ReadRecords.{rule-record, few-groups, few-rules}
+use Rattle.sheets.specs.WriteBack.{WrittenAs, not-read, is-read, rest-written}
 use Rattle.tables.specs.TestLaws.{by-test}
 
 -- the rest of the sheet from a place on, after so many groups and rules, holds rules up to the next group, and groups

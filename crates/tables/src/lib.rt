@@ -1,7 +1,7 @@
 // Tables: the translation from a sheet to a table of nodes, and the run of such a table on a word.
 ghost use mathlib.Core.Path.{_≡_};
-ghost use Rattle.tables.specs.Answers.{translation};
-ghost use Rattle.tables.specs.RanAnswers.{RanAs};
+ghost use Rattle.tables.specs.Answers.{numberOfTranslated, valueOfTranslated, translation};
+ghost use Rattle.tables.specs.RanAnswers.{numberOfRan, valueOfRan, RanAs};
 ghost use Rattle.tables.specs.RunAnswers.{runOutcome};
 
 mod layings;
@@ -77,5 +77,52 @@ pub fn run(sheet: &[u8], table: &[u16], word: &mut [u8]) -> Ran
             }
             word_run(sheet, &table[..end], word)
         }
+    }
+}
+
+// Document 01's number for each answer, and what is returned besides it.
+pub fn translated_number(answer: Translated) -> u8
+    ensures { λ r. ⌜ r ≡ numberOfTranslated answer ⌝ }
+{
+    match answer {
+        Translated::Nodes(_) => 0,
+        Translated::Refused(_) => 3,
+        Translated::Short => 6,
+    }
+}
+
+pub fn translated_value(answer: Translated) -> usize
+    ensures { λ r. ⌜ r ≡ valueOfTranslated answer ⌝ }
+{
+    match answer {
+        Translated::Nodes(count) => count,
+        Translated::Refused(place) => place,
+        Translated::Short => 0,
+    }
+}
+
+pub fn ran_number(answer: Ran) -> u8
+    ensures { λ r. ⌜ r ≡ numberOfRan answer ⌝ }
+{
+    match answer {
+        Ran::Done(_) => 0,
+        Ran::Length => 1,
+        Ran::Letter => 2,
+        Ran::Refused(_) => 3,
+        Ran::Longer => 4,
+        Ran::Table => 7,
+    }
+}
+
+pub fn ran_value(answer: Ran) -> usize
+    ensures { λ r. ⌜ r ≡ valueOfRan answer ⌝ }
+{
+    match answer {
+        Ran::Done(size) => size,
+        Ran::Length => 0,
+        Ran::Letter => 0,
+        Ran::Refused(place) => place,
+        Ran::Longer => 0,
+        Ran::Table => 0,
     }
 }
