@@ -10,7 +10,7 @@ from second.tables import nodes_of
 from sets import Set
 from sheets import SHIPPED_SHEET, damaged, made_groups, made_letters
 from words import damaged as damaged_word
-from words import made_part, made_word
+from words import made_part, made_word, published, published_answer
 
 
 def sample_runs(_batch):
@@ -60,6 +60,17 @@ def shipped_runs(batch):
     return [(RUN, SHIPPED_SHEET, made, made_word(rng)) for _ in range(1000)]
 
 
+def vocabulary_runs(batch):
+    """The published vocabulary through the shipped table, an eighth to a batch."""
+    made = sum(nodes_of(read_sheet(SHIPPED_SHEET)), [])
+    return [(RUN, SHIPPED_SHEET, made, word) for word in list(published())[batch::8]]
+
+
+def published_stem(request):
+    """The published stem, which the native stemmer gives too."""
+    return published_answer(request[::3])
+
+
 def by_rules(request):
     """The third way: the groups read by their rules, without a table, where the sheet and the table
     are in order. The walk of a table has to read every group as its rules do."""
@@ -78,4 +89,5 @@ SETS = [
     Set("samples", 1, sample_runs, by_rules),
     Set("made", 24, made_runs, by_rules),
     Set("shipped", 4, shipped_runs, by_rules),
+    Set("vocabulary", 8, vocabulary_runs, published_stem),
 ]

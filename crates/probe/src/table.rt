@@ -48,7 +48,11 @@ pub fn answered_run() -> bool {
     let size = sheet.length;
     let count = table.length;
     let length = word.length;
-    answer_run(&sheet_space[..size], &table_space[..count], &mut word_space[..length]);
+    answer_run(
+        &sheet_space[..size],
+        &table_space[..count],
+        &mut word_space[..length],
+    );
     true
 }
 
