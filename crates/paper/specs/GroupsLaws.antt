@@ -8,13 +8,10 @@ use lib.Dec.{eqb}
 use lib.ListN.{length, take, drop, getD, length-take, length-drop, length-append, take-append-drop}
 use lib.Seq.{ext-getD, getD-drop}
 use borrow.Author.Tests.{eq-eqb, eqb-true}
+use Rattle.paper.specs.TestLaws.{and-parts}
 use Rattle.paper.specs.Groups.{same, endsWith, before}
 
 -- ══ Two lists of letters are the same ══
-
-pub and-both : (a b : Bool) → (a && b) ≡ true → (a ≡ true) × (b ≡ true)
-and-both true b e = (refl, e)
-and-both false b e = (e, cc)
 
 pub same-equal : (xs ys : List ℕ) → same xs ys ≡ true → xs ≡ ys
 unfolding same
@@ -22,7 +19,7 @@ same-equal [] [] e = refl
 same-equal [] (y ∷ ys) e = cc
 same-equal (x ∷ xs) [] e = cc
 same-equal (x ∷ xs) (y ∷ ys) e =
-    let both = and-both (eqb x y) (same xs ys) e in
+    let both = and-parts (eqb x y) (same xs ys) e in
     let head : x ≡ y = eqb-true x y (both .0) in
     let tail : xs ≡ ys = same-equal xs ys (both .1) in
     cc

@@ -30,7 +30,8 @@ use Rattle.paper.specs.Groups.{
   outgrown,
   read,
 }
-use Rattle.paper.specs.GroupsLaws.{and-both, before-length, ending-short}
+use Rattle.paper.specs.TestLaws.{and-parts}
+use Rattle.paper.specs.GroupsLaws.{before-length, ending-short}
 use Rattle.paper.specs.ReadingLaws.{every, every-in, obeyed-first}
 use Rattle.paper.specs.Shipped.{rule, shipped}
 use Rattle.paper.specs.Words.{readWord, stem}
@@ -96,7 +97,7 @@ pub tame-done :
 unfolding read tame
 tame-done place [] opened word t fits = (word, refl, omega arith)
 tame-done place (group ∷ groups) opened word t fits =
-    let both = and-both (every (tame-rule (room (group .gate))) (group .rules)) (tame groups) t in
+    let both = and-parts (every (tame-rule (room (group .gate))) (group .rules)) (tame groups) t in
     let result = readGroup word (group .rules) in
     let grown = group-length (room (group .gate)) word (group .rules) (both .0) in
     go (group .gate) opened fits grown

@@ -6,6 +6,7 @@ pub mod Groups
 pub mod Shipped
 pub mod Words
 pub mod Samples
+pub mod TestLaws
 pub mod LettersLaws
 pub mod GroupsLaws
 pub mod ReadingLaws

@@ -21,7 +21,7 @@ use lib.Dec.{eqb}
 use lib.ListN.{length, take}
 use borrow.Author.Tests.{eqb-true, eq-eqb, ne-eqb}
 use Rattle.paper.specs.Conditions.{holds}
-use Rattle.paper.specs.GroupsLaws.{and-both}
+use Rattle.paper.specs.TestLaws.{and-parts}
 use Rattle.paper.specs.Groups.{Rule, endsWith, before, which, first, fitting, longest, chosen, obeyed}
 
 -- ══ The rules that pass a test, and the first of them ══
@@ -36,7 +36,7 @@ pub every-in :
 unfolding every
 every-in test [] all m = absurd (List·Memᴰ·not-nil m)
 every-in test (one ∷ rules) all m =
-    let both = and-both (test one) (every test rules) all in
+    let both = and-parts (test one) (every test rules) all in
     ⊎-elim (λ same. ap test same ∙ both .0) (λ later. every-in test rules (both .1) later) (List·Memᴰ·cases-cons m)
 
 -- no rule of the list passes the test

@@ -11,7 +11,7 @@ use lib.Seq.{drop-drop, take-append-seam, drop-append-seam}
 use borrow.Author.Tests.{ltb-false, le-ltb}
 use Rattle.sheets.specs.Records.{number, bodyLength, kind, body, after, cut}
 use Rattle.sheets.specs.Bytes.{two, recordOf}
-use Rattle.sheets.specs.Tests.{neither-left, neither-right}
+use Rattle.paper.specs.TestLaws.{neither-left, neither-right}
 
 -- ## The bytes of a record, read
 module _ (k : ℕ) (b more : List ℕ) where

@@ -10,7 +10,7 @@ use lib.ListN.{length}
 use borrow.Author.Tests.{eqb-true, eq-eqb}
 use Rattle.paper.specs.Groups.{Rule, same}
 use Rattle.sheets.specs.Nodes.{tails, tailsOf, member, distinct}
-use Rattle.sheets.specs.Tests.{both-left, both-right}
+use Rattle.paper.specs.TestLaws.{and-left, and-right}
 
 -- how long the longest tail of an ending is that stands among these
 unfoldable pub shared : List ℕ → List (List ℕ) → ℕ
@@ -24,8 +24,8 @@ same-equal [] [] is = refl
 same-equal [] (y ∷ ys) is = absurd (false≢true is)
 same-equal (x ∷ xs) [] is = absurd (false≢true is)
 same-equal (x ∷ xs) (y ∷ ys) is =
-    let first : x ≡ y = eqb-true x y (both-left (eqb x y) (same xs ys) is) in
-    let others : xs ≡ ys = same-equal xs ys (both-right (eqb x y) (same xs ys) is) in
+    let first : x ≡ y = eqb-true x y (and-left (eqb x y) (same xs ys) is) in
+    let others : xs ≡ ys = same-equal xs ys (and-right (eqb x y) (same xs ys) is) in
     cc
 
 pub same-self : (xs : List ℕ) → same xs xs ≡ true

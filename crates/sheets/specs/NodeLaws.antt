@@ -10,7 +10,7 @@ use borrow.Author.Tests.{leb-true}
 use Rattle.paper.specs.Groups.{Rule, Group}
 use Rattle.sheets.specs.Nodes.{tails, tailsOf, member, distinct, nodeCount}
 use Rattle.sheets.specs.Bytes.{allowed, allAllowed, groupsAllowed, ruleCount, firstAlways, bounded}
-use Rattle.sheets.specs.Tests.{both-left, both-right}
+use Rattle.paper.specs.TestLaws.{and-left, and-right}
 use Rattle.sheets.specs.WrittenRules.{bounds}
 
 one-more : (b : Bool) (n k l : ℕ) → k ≤ n → l ≤ n → cond b k (suc l) ≤ suc n
@@ -33,8 +33,8 @@ tails-at-most : (rules : List Rule) → allAllowed rules ≡ true → length (ta
 unfolding tailsOf allAllowed
 tails-at-most [] all = omega arith
 tails-at-most (rule ∷ rules) all =
-    let here = bounds rule (both-left (allowed rule) (allAllowed rules) all) .short-ending in
-    let others = tails-at-most rules (both-right (allowed rule) (allAllowed rules) all) in
+    let here = bounds rule (and-left (allowed rule) (allAllowed rules) all) .short-ending in
+    let others = tails-at-most rules (and-right (allowed rule) (allAllowed rules) all) in
     omega (arith, length-append (tails (rule .ending)) (tailsOf rules), length-tails (rule .ending))
 
 pub nodes-at-most : (groups : List Group) → groupsAllowed groups ≡ true → nodeCount groups ≤ length groups + 12 * ruleCount groups
@@ -42,8 +42,8 @@ unfolding nodeCount groupsAllowed ruleCount
 nodes-at-most [] all = omega arith
 nodes-at-most (group ∷ groups) all =
     let rules = group .rules in
-    let here = tails-at-most rules (both-left (allAllowed rules) (groupsAllowed groups) all) in
-    let others = nodes-at-most groups (both-right (allAllowed rules) (groupsAllowed groups) all) in
+    let here = tails-at-most rules (and-left (allAllowed rules) (groupsAllowed groups) all) in
+    let others = nodes-at-most groups (and-right (allAllowed rules) (groupsAllowed groups) all) in
     omega (arith, distinct-at-most [] (tailsOf rules))
 
 pub at-most-1552 : (groups : List Group) → bounded groups ≡ true → nodeCount groups ≤ 1552
@@ -52,10 +52,10 @@ at-most-1552 groups all =
     let few = leb (length groups) 16 in
     let first = firstAlways groups in
     let fewer = leb (ruleCount groups) 128 in
-    let three = both-left (few && first && fewer) (groupsAllowed groups) all in
+    let three = and-left (few && first && fewer) (groupsAllowed groups) all in
     omega (
       arith,
-      leb-true (length groups) 16 (both-left few first (both-left (few && first) fewer three)),
-      leb-true (ruleCount groups) 128 (both-right (few && first) fewer three),
-      nodes-at-most groups (both-right (few && first && fewer) (groupsAllowed groups) all),
+      leb-true (length groups) 16 (and-left few first (and-left (few && first) fewer three)),
+      leb-true (ruleCount groups) 128 (and-right (few && first) fewer three),
+      nodes-at-most groups (and-right (few && first && fewer) (groupsAllowed groups) all),
     )

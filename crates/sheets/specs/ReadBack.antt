@@ -26,7 +26,7 @@ use Rattle.sheets.specs.Bytes.{
   firstAlways,
   bounded,
 }
-use Rattle.sheets.specs.Tests.{both-left, both-right}
+use Rattle.paper.specs.TestLaws.{and-left, and-right}
 use Rattle.sheets.specs.ByteLaws.{size-read, kind-read, body-read, after-read, length-read, whole-read}
 use Rattle.sheets.specs.RuleLaws.{gate-read, gate-number, gate-sound}
 use Rattle.sheets.specs.WrittenRules.{rule-read, rule-sound}
@@ -109,10 +109,10 @@ rules-first groups read (one ∷ list) (suc more) before rules place some few fe
     let long = ap length joined in
     rw (
       joined,
-      read-rule more before rules place one (written list groups) (both-left (allowed one) (allAllowed list) all) some
+      read-rule more before rules place one (written list groups) (and-left (allowed one) (allAllowed list) all) some
           (omega arith),
       rules-first groups read list more before (suc rules) (place + (4 + length (ruleBody one))) some few (omega arith)
-          (both-right (allowed one) (allAllowed list) all)
+          (and-right (allowed one) (allAllowed list) all)
           each
           (omega arith),
     )
@@ -146,8 +146,8 @@ groups-read (one ∷ groups) (suc more) before rules place few fewer each first 
           (omega arith)
           (omega arith)
           (omega arith)
-          (both-left (allAllowed (one .rules)) (groupsAllowed groups) each)
-          (both-right (allAllowed (one .rules)) (groupsAllowed groups) each)
+          (and-left (allAllowed (one .rules)) (groupsAllowed groups) each)
+          (and-right (allAllowed (one .rules)) (groupsAllowed groups) each)
           (omega arith),
     )
     refl
@@ -159,12 +159,12 @@ read-back groups all =
     let first = firstAlways groups in
     let fewer = leb (ruleCount groups) 128 in
     let each = groupsAllowed groups in
-    let three = both-left (few && first && fewer) each all in
-    let two = both-left (few && first) fewer three in
+    let three = and-left (few && first && fewer) each all in
+    let two = and-left (few && first) fewer three in
     ap whole
     (groups-read groups (length (groupsBytes groups ++ recordOf 3 [])) 0 0 0
-    (let h = leb-true (length groups) 16 (both-left few first two) in omega arith)
-    (let h = leb-true (ruleCount groups) 128 (both-right (few && first) fewer three) in omega arith)
-    (both-right (few && first && fewer) each all)
-    (λ none. both-right few first two)
+    (let h = leb-true (length groups) 16 (and-left few first two) in omega arith)
+    (let h = leb-true (ruleCount groups) 128 (and-right (few && first) fewer three) in omega arith)
+    (and-right (few && first && fewer) each all)
+    (λ none. and-right few first two)
     (omega arith))

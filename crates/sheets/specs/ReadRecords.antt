@@ -23,7 +23,7 @@ use Rattle.sheets.specs.Records.{
 }
 use Rattle.sheets.specs.Bytes.{two, recordOf, numberOfGate, gateBody, ruleBody}
 use Rattle.sheets.specs.Lists.{empty}
-use Rattle.sheets.specs.Tests.{neither-left, neither-right}
+use Rattle.paper.specs.TestLaws.{neither-left, neither-right}
 use Rattle.sheets.specs.ByteLaws.{fitting, length-body, length-after, record-is}
 use Rattle.sheets.specs.RuleLaws.{group-length, group-is, sound, length-replacement, rule-is}
 

@@ -42,7 +42,8 @@ use Rattle.sheets.specs.Bytes.{
   allowed,
 }
 use Rattle.sheets.specs.Lists.{empty}
-use Rattle.sheets.specs.Tests.{neither-left, neither-right, both-left, both-right, none-of-three, none-of-six}
+use Rattle.sheets.specs.Tests.{none-of-three, none-of-six}
+use Rattle.paper.specs.TestLaws.{neither-left, neither-right, and-left, and-right}
 
 -- ## Groups
 pub gate-read : (one : Gate) → gate (gateBody one) ≡ one
@@ -105,8 +106,8 @@ pub not-outside : (bytes : List ℕ) → letters bytes ≡ true → outside byte
 unfolding outside letters
 not-outside [] all = refl
 not-outside (byte ∷ bytes) all =
-    let here : small byte ≡ true = both-left (small byte) (letters bytes) all in
-    simp (here, not-outside bytes (both-right (small byte) (letters bytes) all))
+    let here : small byte ≡ true = and-left (small byte) (letters bytes) all in
+    simp (here, not-outside bytes (and-right (small byte) (letters bytes) all))
 
 -- ## A rule's body that is read
 -- what is known of a body that is not faulty

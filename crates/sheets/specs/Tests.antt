@@ -1,24 +1,6 @@
--- Laws of the Boolean tests that the definitions are made of. Assumes nothing.
+-- Several Boolean tests of which none holds. Assumes nothing.
 use mathlib.Core.Path.{_≡_, refl}
-use mathlib.Core.Bool.{Bool, true, false, _&&_, _||_, true≢false, false≢true}
-
--- two tests of which neither holds
-pub neither-left : (a b : Bool) → a || b ≡ false → a ≡ false
-neither-left true b h = absurd (true≢false h)
-neither-left false b h = refl
-
-pub neither-right : (a b : Bool) → a || b ≡ false → b ≡ false
-neither-right true b h = absurd (true≢false h)
-neither-right false b h = h
-
--- two tests that both hold
-pub both-left : (a b : Bool) → a && b ≡ true → a ≡ true
-both-left true b h = refl
-both-left false b h = absurd (false≢true h)
-
-pub both-right : (a b : Bool) → a && b ≡ true → b ≡ true
-both-right true b h = h
-both-right false b h = absurd (false≢true h)
+use mathlib.Core.Bool.{Bool, true, false, _||_, true≢false}
 
 -- three, and six, of which none holds
 pub none-of-three : (a b c : Bool) → a || b || c ≡ false → (a ≡ false) × (b ≡ false) × (c ≡ false)

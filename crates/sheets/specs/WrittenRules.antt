@@ -10,7 +10,7 @@ use borrow.Author.Tests.{le-ltb, leb-true}
 use Rattle.paper.specs.Groups.{Action, replace, single-letter, Rule}
 use Rattle.sheets.specs.Records.{condition, ending, replacement, rule, outside, faultyNumbers, faultyLetters, faultyAction, faultyRule}
 use Rattle.sheets.specs.Bytes.{numberOfAction, replacementOf, ruleBody, letters, atMost12, allowedAction, allowed}
-use Rattle.sheets.specs.Tests.{both-left, both-right}
+use Rattle.paper.specs.TestLaws.{and-left, and-right}
 use Rattle.sheets.specs.RuleLaws.{not-outside}
 
 pub ending-read : (one : Rule) → ending (ruleBody one) ≡ one .ending
@@ -60,23 +60,23 @@ unfolding allowed atMost12
 bounds one all =
     let first = leb (one .condition) 8 in
     let second = atMost12 (one .ending) in
-    let both = both-left (first && second) (allowedAction one (one .action)) all in
-    let ends = both-right first second both in
+    let both = and-left (first && second) (allowedAction one (one .action)) all in
+    let ends = and-right first second both in
     record {
-      low-condition = leb-true _ _ (both-left first second both);
-      short-ending = leb-true _ _ (both-left (leb (length (one .ending)) 12) (letters (one .ending)) ends);
-      ending-letters = both-right (leb (length (one .ending)) 12) (letters (one .ending)) ends;
-      fit-action = both-right (first && second) (allowedAction one (one .action)) all;
+      low-condition = leb-true _ _ (and-left first second both);
+      short-ending = leb-true _ _ (and-left (leb (length (one .ending)) 12) (letters (one .ending)) ends);
+      ending-letters = and-right (leb (length (one .ending)) 12) (letters (one .ending)) ends;
+      fit-action = and-right (first && second) (allowedAction one (one .action)) all;
     }
 
 short-replacement : (one : Rule) (action : Action) → allowedAction one action ≡ true → length (replacementOf action) ≤ 12
 unfolding allowedAction atMost12
-short-replacement one (replace s2) fits = leb-true _ _ (both-left (leb (length s2) 12) (letters s2) fits)
+short-replacement one (replace s2) fits = leb-true _ _ (and-left (leb (length s2) 12) (letters s2) fits)
 short-replacement one single-letter fits = omega arith
 
 replacement-letters : (one : Rule) (action : Action) → allowedAction one action ≡ true → outside (replacementOf action) ≡ false
 unfolding allowedAction atMost12 outside
-replacement-letters one (replace s2) fits = not-outside s2 (both-right (leb (length s2) 12) (letters s2) fits)
+replacement-letters one (replace s2) fits = not-outside s2 (and-right (leb (length s2) 12) (letters s2) fits)
 replacement-letters one single-letter fits = refl
 
 pub length-at-most : (one : Rule) → allowed one ≡ true → length (ruleBody one) ≤ 28
@@ -130,8 +130,8 @@ fits-action : (one : Rule) (action : Action) → allowedAction one action ≡ tr
 unfolding allowedAction
 fits-action one (replace s2) fits = refl
 fits-action one single-letter fits =
-    let condition-is = both-left (eqb (one .condition) 5 || eqb (one .condition) 8) (eqb (length (one .ending)) 0) fits in
-    let ending-is = both-right (eqb (one .condition) 5 || eqb (one .condition) 8) (eqb (length (one .ending)) 0) fits in
+    let condition-is = and-left (eqb (one .condition) 5 || eqb (one .condition) 8) (eqb (length (one .ending)) 0) fits in
+    let ending-is = and-right (eqb (one .condition) 5 || eqb (one .condition) 8) (eqb (length (one .ending)) 0) fits in
     simp (condition-is, ending-is)
 
 sound-action : (one : Rule) → allowed one ≡ true → faultyAction (ruleBody one) ≡ false

@@ -84,7 +84,7 @@ fn next_place(sheet: &[u8], at: usize) -> usize
 }
 
 // How long the longest tail is that the rule at `at` shares with one of the `count` rules that stand from `first` on.
-pub fn longest_shared(sheet: &[u8], first: usize, count: usize, at: usize) -> usize
+pub(crate) fn longest_shared(sheet: &[u8], first: usize, count: usize, at: usize) -> usize
     ensures { λ r. ⌜ r ≡ shared (endingIn (drop at (now (sheet .entry)))) (tailsIn count (drop first (now (sheet .entry)))) ⌝ }
 {
     let ending = ending_at(sheet, at);

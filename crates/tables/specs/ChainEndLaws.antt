@@ -8,7 +8,7 @@ use lib.Dec.{lit<}
 use lib.ListN.{length, getD, length-append}
 use borrow.Author.Tests.{ne-eqb}
 use Rattle.tables.specs.Layout.{Node, node, isChild, isSibling, numberOf, rows}
-use Rattle.tables.specs.TestLaws.{by-test}
+use Rattle.paper.specs.TestLaws.{by-test}
 use Rattle.tables.specs.NumberLaws.{number-cong, Every}
 use Rattle.tables.specs.NodeLaws.{child-siblings, root-no-child}
 use Rattle.tables.specs.ChainLaws.{rows-length, first-child-at, next-sibling-at}

@@ -10,7 +10,7 @@ use lib.Seq.{getD-drop}
 use borrow.Author.Tests.{ne-eqb}
 use Rattle.tables.specs.Layout.{Node, node, sameNode, letterOf, isChild, isSibling, numberOf, rows}
 use Rattle.tables.specs.Walk.{letter, firstChild, nextSibling, firstRule, inChain, child}
-use Rattle.tables.specs.TestLaws.{by-test}
+use Rattle.paper.specs.TestLaws.{by-test}
 use Rattle.tables.specs.NumberLaws.{number-cong}
 use Rattle.tables.specs.NodeLaws.{child-letter, no-child, child-siblings, root-no-child}
 

@@ -13,7 +13,9 @@ use borrow.Author.Tests.{eqb-true, eq-eqb, leb-true, leb-false}
 use Rattle.paper.specs.Groups.{Rule, same, endsWith, which, fitting, longest, chosen}
 use Rattle.tables.specs.Layout.{numberOf}
 use Rattle.tables.specs.Faithful.{firstWith}
-use Rattle.tables.specs.TestLaws.{by-test, and-left, and-right, and-both, test-ext, same-eq, same-refl, eq-same, same-sym}
+use Rattle.tables.specs.TestLaws.{same-sym}
+use Rattle.paper.specs.TestLaws.{by-test, and-left, and-right, and-both, test-ext}
+use Rattle.paper.specs.GroupsLaws.{same-equal, same-itself, equal-same}
 use Rattle.tables.specs.NumberLaws.{number-none}
 
 -- Rules that pass a test
@@ -34,16 +36,16 @@ which-which f g (rule ∷ rules) =
 pub endsWith-length : (word s1 : List ℕ) → endsWith word s1 ≡ true → length s1 ≤ length word
 unfolding endsWith
 endsWith-length word s1 e =
-    let l = ap length (same-eq (drop (length word - length s1) word) s1 e) in
+    let l = ap length (same-equal (drop (length word - length s1) word) s1 e) in
     omega (arith, rw length-drop at l)
 
 pub endsWith-self : (word : List ℕ) → endsWith word word ≡ true
 unfolding endsWith
-endsWith-self word = rw sub-self (same-refl word)
+endsWith-self word = rw sub-self (same-itself word)
 
 pub endsWith-whole : (word s1 : List ℕ) → endsWith word s1 ≡ true → length s1 ≡ length word → s1 ≡ word
 unfolding endsWith
-endsWith-whole word s1 e l = sym (same-eq word s1 (rw (l, sub-self) at e))
+endsWith-whole word s1 e l = sym (same-equal word s1 (rw (l, sub-self) at e))
 
 pub endsWith-empty : (s1 : List ℕ) → endsWith [] s1 ≡ same s1 []
 unfolding endsWith
@@ -66,7 +68,7 @@ endsWith-rest letter rest s1 e =
         let h = leb-false (length s1) (length rest) p in
         let l = endsWith-length (letter ∷ rest) s1 q in
         let w = endsWith-whole (letter ∷ rest) s1 q (omega arith) in
-        absurd (false≢true (sym e ∙ eq-same s1 (letter ∷ rest) w))
+        absurd (false≢true (sym e ∙ equal-same {xs = s1} {ys = letter ∷ rest} w))
 
     shorter : leb (length s1) (length rest) ≡ false → endsWith rest s1 ≡ true → endsWith (letter ∷ rest) s1 ≡ true
     shorter p q =
@@ -90,7 +92,7 @@ unfolding which longest firstWith numberOf
 longest-least f word h k [] e = absurd (e refl)
 longest-least f word h k (rule ∷ rules) e =
     by-test (same (rule .ending) word)
-    (λ p. let q = same-eq (rule .ending) word p in let l = ap length q in rw (h rule q) (omega arith))
+    (λ p. let q = same-equal (rule .ending) word p in let l = ap length q in rw (h rule q) (omega arith))
     (λ p. let rest = longest-least f word h (suc k) rules (rw p at e) in
     by-test (f rule) (λ q. rw q (omega arith)) (λ q. rw q rest))
 
@@ -114,11 +116,11 @@ chosen-whole k rules word e =
     there rule p =
         let ends = and-left (endsWith word (rule .ending)) (eqb (length (rule .ending)) (length word)) p in
         let long = and-right (endsWith word (rule .ending)) (eqb (length (rule .ending)) (length word)) p in
-        eq-same _ _ (endsWith-whole word (rule .ending) ends (eqb-true _ _ long))
+        equal-same (endsWith-whole word (rule .ending) ends (eqb-true _ _ long))
 
     back : (rule : Rule) → same (rule .ending) word ≡ true → (endsWith word (rule .ending) && eqb (length (rule .ending)) (length word)) ≡ true
     back rule p =
-        let q = same-eq (rule .ending) word p in
+        let q = same-equal (rule .ending) word p in
         rw q (and-both (endsWith-self word) (eq-eqb (length word) (length word) refl))
 
 -- Where it is none, the rules are those that the rest of the word chooses

@@ -10,7 +10,8 @@ use borrow.Author.Tests.{ne-eqb, eq-eqb}
 use Rattle.paper.specs.Groups.{Rule, Group, same}
 use Rattle.sheets.specs.Nodes.{tails, member, distinct, nodeCount}
 use Rattle.tables.specs.Layout.{Node, node, present, roots, ends, way, added, grown, nodesOf, tableOf}
-use Rattle.tables.specs.TestLaws.{by-test, same-eq}
+use Rattle.paper.specs.TestLaws.{by-test}
+use Rattle.paper.specs.GroupsLaws.{same-equal}
 use Rattle.tables.specs.TailLaws.{member-append}
 use Rattle.tables.specs.GrownLaws.{present-added, present-grown, present-way}
 use Rattle.tables.specs.SheetLaws.{ways-group}
@@ -75,7 +76,7 @@ last-length whole last nodes left seen more =
     known : member whole (left ++ seen) ≡ true → (tail : List ℕ) → member tail ((left ++ whole ∷ []) ++ seen) ≡ member tail (left ++ seen)
     known p tail =
         seen-behind whole left seen tail
-        ∙ by-test (same tail whole) (λ q. rw (same-eq tail whole q, p, or-true)) (λ q. rw q)
+        ∙ by-test (same tail whole) (λ q. rw (same-equal tail whole q, p, or-true)) (λ q. rw q)
 
 way-length : (group : ℕ) (ending : List ℕ) (nodes : List Node) (seen more : List (List ℕ)) → Agree group nodes seen
     → length (added nodes (way group ending)) + distinct (ascending ending ++ seen) more ≡ length nodes + distinct seen (ascending ending ++ more)

@@ -9,7 +9,7 @@ use lib.Dec.{eqb}
 use borrow.Author.Tests.{eqb-true}
 use Rattle.paper.specs.Letters.{inward}
 use Rattle.tables.specs.Walk.{firstRule, child, deepest, onward, reached, held}
-use Rattle.tables.specs.TestLaws.{by-test}
+use Rattle.paper.specs.TestLaws.{by-test}
 
 -- the first number that is not 0, of the word's tails from the longest on
 unfoldable pub longestIn : (List ℕ → ℕ) → List ℕ → ℕ

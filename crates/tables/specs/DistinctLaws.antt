@@ -5,7 +5,9 @@ use mathlib.Core.Bool.{Bool, _||_, or-assoc, or-comm, or-true}
 use mathlib.Core.List.{List, [], _∷_, _++_, append-assoc}
 use Rattle.paper.specs.Groups.{Rule, same}
 use Rattle.sheets.specs.Nodes.{tails, tailsOf, member, distinct}
-use Rattle.tables.specs.TestLaws.{by-test, same-eq, same-sym}
+use Rattle.tables.specs.TestLaws.{same-sym}
+use Rattle.paper.specs.TestLaws.{by-test}
+use Rattle.paper.specs.GroupsLaws.{same-equal}
 
 -- only what is seen counts, not how often or where
 pub distinct-cong : (seen known : List (List ℕ)) → ((tail : List ℕ) → member tail seen ≡ member tail known)
@@ -33,7 +35,7 @@ distinct-swap seen one two list =
     (λ p. by-test (member two seen) (λ q. rw (p, q)) (λ q. rw (p, q, or-true)))
     (λ p. by-test (member two seen) (λ q. rw (p, q, or-true))
     (λ q. rw (p, q, same-sym two one) (by-test (same one two)
-    (λ r. rw (r, same-eq one two r))
+    (λ r. rw (r, same-equal one two r))
     (λ r. rw (r, distinct-cong (two ∷ one ∷ seen) (one ∷ two ∷ seen) (either seen one two) list)))))
 
 pub distinct-move : (seen before : List (List ℕ)) (one : List ℕ) (after : List (List ℕ))

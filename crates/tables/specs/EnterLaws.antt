@@ -10,7 +10,7 @@ use Rattle.paper.specs.Letters.{inward}
 use Rattle.tables.specs.Layout.{Node, node, present, way, added}
 use Rattle.tables.specs.Walk.{child}
 use Rattle.tables.specs.Laying.{endOf, Laying, grow, enter}
-use Rattle.tables.specs.TestLaws.{by-test}
+use Rattle.paper.specs.TestLaws.{by-test}
 use Rattle.tables.specs.PutLaws.{hung-length}
 use Rattle.tables.specs.CountLaws.{added-last}
 use Rattle.tables.specs.LayingLaws.{Standing, standing-found, standing-added}

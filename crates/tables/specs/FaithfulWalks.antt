@@ -15,7 +15,8 @@ use Rattle.paper.specs.Words.{readWord}
 use Rattle.tables.specs.Layout.{numberOf}
 use Rattle.tables.specs.Walk.{deepest, reached, held, walked, walkGroup, walk, walkWord}
 use Rattle.tables.specs.Faithful.{firstWith, FaithfulGroup, FaithfulFrom, Faithful}
-use Rattle.tables.specs.TestLaws.{by-test, test-ext, same-eq, eq-same}
+use Rattle.paper.specs.TestLaws.{by-test, test-ext}
+use Rattle.paper.specs.GroupsLaws.{same-equal, equal-same}
 use Rattle.tables.specs.NumberLaws.{number-least}
 use Rattle.tables.specs.ChosenLaws.{which-cong, chosen-whole, chosen-rest, chosen-none}
 use Rattle.tables.specs.DeepestLaws.{longestIn, longest-cong, deepest-longest}
@@ -29,7 +30,7 @@ first-one k [] s1 other e q = absurd (e refl)
 first-one k (rule ∷ rules) s1 other e q =
     by-test (same (rule .ending) s1)
     (λ p. by-test (same (rule .ending) other)
-    (λ r. sym (same-eq (rule .ending) other r) ∙ same-eq (rule .ending) s1 p)
+    (λ r. sym (same-equal (rule .ending) other r) ∙ same-equal (rule .ending) s1 p)
     (λ r.
     let here : k ≡ firstWith (suc k) rules other = rw (p, r) at q in
     let some : k ≡ 0 → ⊥ = rw p at e in
@@ -45,8 +46,8 @@ first-one k (rule ∷ rules) s1 other e q =
 pub first-same : (k : ℕ) (rules : List Rule) (s1 other : List ℕ) → (firstWith k rules s1 ≡ 0 → ⊥)
     → same other s1 ≡ eqb (firstWith k rules s1) (firstWith k rules other)
 first-same k rules s1 other e =
-    test-ext _ _ (λ p. eq-eqb _ _ (ap (firstWith k rules) (sym (same-eq other s1 p))))
-    (λ p. eq-same other s1 (first-one k rules s1 other e (eqb-true _ _ p)))
+    test-ext _ _ (λ p. eq-eqb _ _ (ap (firstWith k rules) (sym (same-equal other s1 p))))
+    (λ p. equal-same (first-one k rules s1 other e (eqb-true _ _ p)))
 
 -- No rule before the first has its ending
 pub which-from : (k : ℕ) (rules : List Rule) (s1 : List ℕ) → (firstWith k rules s1 ≡ 0 → ⊥)

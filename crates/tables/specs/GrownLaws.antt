@@ -7,7 +7,7 @@ use lib.Dec.{eqb}
 use Rattle.paper.specs.Groups.{same}
 use Rattle.sheets.specs.Nodes.{tails, member}
 use Rattle.tables.specs.Layout.{Node, node, sameNode, present, way, added, grown}
-use Rattle.tables.specs.TestLaws.{by-test}
+use Rattle.paper.specs.TestLaws.{by-test}
 use Rattle.tables.specs.NodeLaws.{same-node-eq}
 use Rattle.tables.specs.PresentLaws.{present-append}
 

@@ -7,7 +7,7 @@ use native.Mathlib.Omega.{arith}
 use native.Mathlib.Nat.{add-zero, zero-add}
 use lib.ListN.{length, set, length-append}
 use Rattle.tables.specs.Layout.{Node, node, sameNode, oneMore, isChild, isSibling, numberOf, rows}
-use Rattle.tables.specs.TestLaws.{by-test}
+use Rattle.paper.specs.TestLaws.{by-test}
 use Rattle.tables.specs.NodeLaws.{same-node-eq, same-node-refl, child-siblings}
 use Rattle.tables.specs.NumberLaws.{number-kept, number-found, number-some, number-last, Every, every-append}
 

@@ -8,7 +8,7 @@ use native.Mathlib.Nat.{zero-add}
 use lib.Dec.{eqb, lit<}
 use lib.ListN.{length, take, set, length-append}
 use borrow.Author.Tests.{le-leb}
-use Rattle.tables.specs.TestLaws.{or-right}
+use Rattle.paper.specs.TestLaws.{or-right}
 use Rattle.tables.specs.Layout.{Node, node, sameNode, present, isChild, numberOf, rows}
 use Rattle.tables.specs.PutLaws.{hung-front, hung-length}
 use Rattle.tables.specs.NumberLaws.{number-last, Every, every-false, every-append}

@@ -7,18 +7,19 @@ use lib.Dec.{eqb}
 use borrow.Author.Tests.{eqb-true, eq-eqb}
 use Rattle.paper.specs.Groups.{same}
 use Rattle.tables.specs.Layout.{Node, node, sameNode, letterOf, oneMore, isChild, isSibling}
-use Rattle.tables.specs.TestLaws.{by-test, and-left, and-right, and-both, same-eq, same-refl}
+use Rattle.paper.specs.TestLaws.{by-test, and-left, and-right, and-both}
+use Rattle.paper.specs.GroupsLaws.{same-equal, same-itself}
 
 pub same-node-eq : (one other : Node) → sameNode one other ≡ true → one ≡ other
 unfolding sameNode
 same-node-eq one other e =
     let groups = eqb-true (one .group) (other .group) (and-left (eqb (one .group) (other .group)) (same (one .tail) (other .tail)) e) in
-    let tails = same-eq (one .tail) (other .tail) (and-right (eqb (one .group) (other .group)) (same (one .tail) (other .tail)) e) in
+    let tails = same-equal (one .tail) (other .tail) (and-right (eqb (one .group) (other .group)) (same (one .tail) (other .tail)) e) in
     ap₂ node groups tails
 
 pub same-node-refl : (one : Node) → sameNode one one ≡ true
 unfolding sameNode
-same-node-refl one = and-both (eq-eqb (one .group) (one .group) refl) (same-refl (one .tail))
+same-node-refl one = and-both (eq-eqb (one .group) (one .group) refl) (same-itself (one .tail))
 
 -- A child of a letter is the node whose tail has that letter before the parent's tail
 
@@ -53,7 +54,7 @@ unfolding isSibling isChild oneMore
 child-siblings parent group [] e other = absurd (false≢true (and-right (eqb (parent .group) group) false e))
 child-siblings parent group (letter ∷ rest) e other =
     let groups = eqb-true (parent .group) group (and-left (eqb (parent .group) group) (same (parent .tail) rest) e) in
-    let tails = same-eq (parent .tail) rest (and-right (eqb (parent .group) group) (same (parent .tail) rest) e) in
+    let tails = same-equal (parent .tail) rest (and-right (eqb (parent .group) group) (same (parent .tail) rest) e) in
     ap (λ (one : Node). isChild one other) (sym (ap₂ node groups tails))
 
 -- a root is no child, and no tail with a letter is a root's

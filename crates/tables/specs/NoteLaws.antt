@@ -12,7 +12,7 @@ use borrow.Author.Tests.{eqb-true, eqb-false}
 use Rattle.tables.specs.Layout.{Node, node, sameNode, numberOf, rows}
 use Rattle.tables.specs.Walk.{firstRule}
 use Rattle.tables.specs.Laying.{Laying, note}
-use Rattle.tables.specs.TestLaws.{by-test}
+use Rattle.paper.specs.TestLaws.{by-test}
 use Rattle.tables.specs.NodeLaws.{same-node-eq, same-node-refl}
 use Rattle.tables.specs.NumberLaws.{number-kept, number-found, number-last, Every, every-false}
 use Rattle.tables.specs.PresentLaws.{Stands, stands}

@@ -7,7 +7,7 @@ use native.Mathlib.Omega.{arith}
 use native.Mathlib.Nat.{add-zero}
 use lib.ListN.{length}
 use Rattle.tables.specs.Layout.{numberOf}
-use Rattle.tables.specs.TestLaws.{by-test}
+use Rattle.paper.specs.TestLaws.{by-test}
 
 module _ {A : Type 0} where
   pub number-cong : (f g : A → Bool) → ((one : A) → f one ≡ g one) → (k : ℕ) (list : List A) → numberOf f k list ≡ numberOf g k list

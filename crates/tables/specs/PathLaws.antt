@@ -11,7 +11,7 @@ use Rattle.paper.specs.Groups.{Rule, same}
 use Rattle.tables.specs.Layout.{Node, node, sameNode, present, numberOf, rows}
 use Rattle.tables.specs.Walk.{firstRule, child, onward, reached, held}
 use Rattle.tables.specs.Faithful.{exists, leads, firstWith, FaithfulGroup}
-use Rattle.tables.specs.TestLaws.{by-test}
+use Rattle.paper.specs.TestLaws.{by-test}
 use Rattle.tables.specs.TailLaws.{leads-parent, leads-nowhere}
 use Rattle.tables.specs.PresentLaws.{number-missing, stands}
 use Rattle.tables.specs.ChainLaws.{child-finds, first-rule-at}

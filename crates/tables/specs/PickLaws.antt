@@ -13,7 +13,7 @@ use Rattle.paper.specs.Letters.{inward}
 use Rattle.paper.specs.Conditions.{holds}
 use Rattle.paper.specs.Groups.{Rule, before, which, first}
 use Rattle.tables.specs.Walk.{deepest, reached, held, walked}
-use Rattle.tables.specs.TestLaws.{by-test}
+use Rattle.paper.specs.TestLaws.{by-test}
 
 -- the first rule from number `found` on that passes both tests, rules being counted from `k`
 unfoldable pub pick : (Rule → Bool) → (Rule → Bool) → ℕ → ℕ → List Rule → Option Rule

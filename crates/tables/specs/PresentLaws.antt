@@ -9,7 +9,7 @@ use lib.Dec.{eqb}
 use lib.ListN.{length}
 use borrow.Author.Tests.{ne-eqb}
 use Rattle.tables.specs.Layout.{Node, sameNode, present, numberOf}
-use Rattle.tables.specs.TestLaws.{by-test}
+use Rattle.paper.specs.TestLaws.{by-test}
 use Rattle.tables.specs.NodeLaws.{same-node-eq}
 
 -- counted from 1 or more, the number is 0 exactly where the node is missing

@@ -16,7 +16,7 @@ use Rattle.sheets.specs.ShippedSheet.{reads}
 use Rattle.tables.specs.Layout.{tableOf}
 use Rattle.tables.specs.Walk.{walkWord}
 use Rattle.tables.specs.Answers.{laidOut}
-use Rattle.tables.specs.TestLaws.{same-eq, same-refl}
+use Rattle.paper.specs.GroupsLaws.{same-equal, same-itself}
 use Rattle.tables.specs.CountLaws.{table-length}
 use Rattle.tables.specs.Demand3.{demand-3-outcome}
 
@@ -39,14 +39,14 @@ pub run-reads : (sheet table word : List ℕ) (groups : List Group) → readShee
     → runOutcome sheet table word ≡ wordOutcome (readWord groups) word
 unfolding runOutcome runOf rightTable
 run-reads sheet table word groups is right =
-    let front = same-eq (take (4 * nodeCount groups) table) (tableOf groups) right in
+    let front = same-equal (take (4 * nodeCount groups) table) (tableOf groups) right in
     rw (is, right, front) (demand-3-outcome groups word)
 
 -- a translated table is the right one
 pub translated-right : (groups : List Group) (table : List ℕ) → rightTable groups (laidOut groups table) ≡ true
 unfolding rightTable laidOut
 translated-right groups table =
-    rw (take-at (tableOf groups) (drop (4 * nodeCount groups) table) (4 * nodeCount groups) (table-length groups)) (same-refl (tableOf groups))
+    rw (take-at (tableOf groups) (drop (4 * nodeCount groups) table) (4 * nodeCount groups) (table-length groups)) (same-itself (tableOf groups))
 
 -- "The table made from the shipped sheet gives the stem of demand 2."
 pub run-stems : (sheet table word : List ℕ) → readSheet sheet ≡ accepted shipped → rightTable shipped table ≡ true

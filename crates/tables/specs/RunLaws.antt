@@ -15,7 +15,7 @@ use Rattle.sheets.specs.Nodes.{nodeCount}
 use Rattle.tables.specs.Layout.{tableOf}
 use Rattle.tables.specs.Walk.{walkWord}
 use Rattle.tables.specs.Answers.{laidOut, translationOf, translation, groupsIn, groupsOf}
-use Rattle.tables.specs.TestLaws.{by-test}
+use Rattle.paper.specs.TestLaws.{by-test}
 use Rattle.tables.specs.CountLaws.{table-length}
 use Rattle.tables.specs.GoingLaws.{Accepted, small-table}
 use Rattle.tables.specs.RunAnswers.{rightTable, runOf, runOutcome}

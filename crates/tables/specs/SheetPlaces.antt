@@ -19,7 +19,7 @@ use Rattle.sheets.specs.SheetLaws.{fault-alone, group-fault, rule-fault, fault-
 use Rattle.sheets.specs.Earlier.{endingIn, ending-in}
 use Rattle.sheets.specs.ReadRecords.{rule-record, few-groups, few-rules}
 use Rattle.sheets.specs.WriteBack.{WrittenAs, not-read, is-read, rest-written}
-use Rattle.tables.specs.TestLaws.{by-test}
+use Rattle.paper.specs.TestLaws.{by-test}
 
 -- the rest of the sheet from a place on, after so many groups and rules, holds rules up to the next group, and groups
 abbrev pub Holding : List ℕ → ℕ → ℕ → ℕ → List Rule → List Group → Type 0

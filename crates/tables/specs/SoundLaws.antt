@@ -6,7 +6,7 @@ use mathlib.Core.Bool.{true, false, _||_, false≢true, or-false}
 use mathlib.Core.List.{List, [], _∷_, _++_}
 use lib.ListN.{length}
 use Rattle.tables.specs.Layout.{Node, node, sameNode, present, isChild, letterOf, numberOf, rows}
-use Rattle.tables.specs.TestLaws.{by-test, test-ext, or-left, or-right, or-cases}
+use Rattle.paper.specs.TestLaws.{by-test, test-ext, or-left, or-right, or-cases}
 use Rattle.tables.specs.NumberLaws.{number-kept, number-nowhere, Every, every-last}
 use Rattle.tables.specs.NodeLaws.{same-node-eq, same-node-refl, root-no-child}
 use Rattle.tables.specs.PresentLaws.{present-append}

@@ -7,7 +7,8 @@ use Rattle.paper.specs.Groups.{Rule, same}
 use Rattle.sheets.specs.Nodes.{tails, tailsOf, member}
 use Rattle.tables.specs.Layout.{numberOf}
 use Rattle.tables.specs.Faithful.{leads, firstWith}
-use Rattle.tables.specs.TestLaws.{by-test, same-eq, same-refl, or-left, or-right, or-none, or-cases}
+use Rattle.paper.specs.TestLaws.{by-test, or-left, or-right, neither-right, or-cases}
+use Rattle.paper.specs.GroupsLaws.{same-equal, same-itself}
 
 pub member-append : (tail : List ℕ) (left right : List (List ℕ)) → member tail (left ++ right) ≡ (member tail left || member tail right)
 unfolding member
@@ -17,7 +18,7 @@ member-append tail (one ∷ left) right = rw (member-append tail left right, or-
 -- an ending is one of its tails
 pub member-self : (letter : ℕ) (parent : List ℕ) → member (letter ∷ parent) (tails (letter ∷ parent)) ≡ true
 unfolding member tails
-member-self letter parent = or-left (same (letter ∷ parent) (letter ∷ parent)) (member (letter ∷ parent) (tails parent)) (same-refl (letter ∷ parent))
+member-self letter parent = or-left (same (letter ∷ parent) (letter ∷ parent)) (member (letter ∷ parent) (tails parent)) (same-itself (letter ∷ parent))
 
 -- a tail of a tail is a tail
 pub member-parent : (letter next : ℕ) (rest ending : List ℕ) → member (letter ∷ next ∷ rest) (tails ending) ≡ true
@@ -27,7 +28,7 @@ member-parent letter next rest [] e = absurd (false≢true e)
 member-parent letter next rest (one ∷ more) e =
     or-cases (same (letter ∷ next ∷ rest) (one ∷ more)) (member (letter ∷ next ∷ rest) (tails more)) e
     (λ p.
-    let whole = same-eq (letter ∷ next ∷ rest) (one ∷ more) p in
+    let whole = same-equal (letter ∷ next ∷ rest) (one ∷ more) p in
     let rest-of-it : more ≡ (next ∷ rest) = cc in
     or-right (same (next ∷ rest) (one ∷ more)) (member (next ∷ rest) (tails more)) (rw rest-of-it (member-self next rest)))
     (λ p. or-right (same (next ∷ rest) (one ∷ more)) (member (next ∷ rest) (tails more)) (member-parent letter next rest more p))
@@ -51,6 +52,6 @@ leads-nowhere [] k (letter ∷ parent) e = refl
 leads-nowhere (rule ∷ rules) k (letter ∷ parent) e =
     let parted = rw member-append at e in
     by-test (same (rule .ending) (letter ∷ parent))
-    (λ p. absurd (false≢true (sym (rw (same-eq (rule .ending) (letter ∷ parent) p, member-self letter parent) at parted))))
+    (λ p. absurd (false≢true (sym (rw (same-equal (rule .ending) (letter ∷ parent) p, member-self letter parent) at parted))))
     (λ p. rw p (leads-nowhere rules (suc k) (letter ∷ parent)
-    (or-none (member (letter ∷ parent) (tails (rule .ending))) (member (letter ∷ parent) (tailsOf rules)) parted)))
+    (neither-right (member (letter ∷ parent) (tails (rule .ending))) (member (letter ∷ parent) (tailsOf rules)) parted)))

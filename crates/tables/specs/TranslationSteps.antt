@@ -13,7 +13,7 @@ use Rattle.paper.specs.Groups.{Group}
 use Rattle.sheets.specs.Nodes.{nodeCount}
 use Rattle.tables.specs.Layout.{Node, node, sameNode, present, roots, ends, way, added, grown, nodesOf, letterOf, isChild, isSibling, numberOf, rows, tableOf}
 use Rattle.tables.specs.Laying.{Laying, laying, enter, note}
-use Rattle.tables.specs.TestLaws.{by-test, or-left}
+use Rattle.paper.specs.TestLaws.{by-test, or-left}
 use Rattle.tables.specs.NumberLaws.{number-nowhere, Every}
 use Rattle.tables.specs.NodeLaws.{same-node-refl, root-no-child}
 use Rattle.tables.specs.PresentLaws.{present-append}

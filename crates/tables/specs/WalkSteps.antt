@@ -11,7 +11,7 @@ use lib.Seq.{take-suc, drop-cons, drop-length}
 use borrow.Author.Tests.{eq-eqb, ne-eqb}
 use Rattle.paper.specs.Letters.{inward}
 use Rattle.tables.specs.Walk.{letter, nextSibling, firstRule, inChain, child, deepest, onward, reached, held}
-use Rattle.tables.specs.TestLaws.{by-test}
+use Rattle.paper.specs.TestLaws.{by-test}
 
 -- A chain
 

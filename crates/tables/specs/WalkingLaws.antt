@@ -12,7 +12,7 @@ use Rattle.paper.specs.Groups.{Rule, Gate, always, if-opened, Group, Result, do
 use Rattle.sheets.specs.Records.{gate}
 use Rattle.sheets.specs.RecordLaws.{GroupHere, RuleHere, EndHere}
 use Rattle.tables.specs.Walk.{walkGroup, walk, walkWord}
-use Rattle.tables.specs.TestLaws.{by-test}
+use Rattle.paper.specs.TestLaws.{by-test}
 use Rattle.tables.specs.Answers.{groupsOf}
 use Rattle.tables.specs.GoingLaws.{Accepted}
 use Rattle.tables.specs.SheetPlaces.{Holding, holding-start, GroupNext, group-next, rule-next, end-next}

@@ -78,7 +78,13 @@ fn grow(table: &mut [u16], count: usize, at: usize, letter: u8) -> Grown
 }
 
 // Enters an ending, and notes its rule at the node where it ends. Returns the nodes so far.
-pub fn insert(table: &mut [u16], count: usize, root: usize, rule: usize, ending: &[u8]) -> usize
+pub(crate) fn insert(
+    table: &mut [u16],
+    count: usize,
+    root: usize,
+    rule: usize,
+    ending: &[u8],
+) -> usize
     requires { ⌜ (4 * count ≤ length (now table)) × ((length (now table) < 65536) × ((root < 65536) × (rule < 65536))) ⌝ }
     ensures { λ r. ⌜ now (table .exit) ≡ note rule (enter (inward (now (ending .entry))) (laying (now (table .entry)) count root)) .table ⌝ }
     ensures { λ r. ⌜ r ≡ enter (inward (now (ending .entry))) (laying (now (table .entry)) count root) .count ⌝ }

@@ -16,7 +16,7 @@ use sheets::reader::draw;
 use sheets::records::Record;
 
 // Whether two tables have the same numbers.
-pub fn same_numbers(one: &[u16], other: &[u16]) -> bool
+pub(crate) fn same_numbers(one: &[u16], other: &[u16]) -> bool
     ensures { λ r. ⌜ r ≡ same (now (one .entry)) (now (other .entry)) ⌝ }
 {
     if one.len() != other.len() {
@@ -145,7 +145,7 @@ fn tried_at(
 }
 
 // Copies letters to a place of the word.
-pub fn copy_in(word: &mut [u8], at: usize, from: &[u8])
+pub(crate) fn copy_in(word: &mut [u8], at: usize, from: &[u8])
     requires { ⌜ at + length (now from) ≤ length (now word) ⌝ }
     ensures { λ r. ⌜ now (word .exit) ≡ paste (now (word .entry)) at (now (from .entry)) (length (now (from .entry))) ⌝ }
 {
@@ -224,13 +224,13 @@ fn walk_group(
 }
 
 // What walking all groups leaves: so many letters, which stand first in the word's place, or a result that does not fit it.
-pub enum Walked {
+pub(crate) enum Walked {
     Left(usize),
     Outgrown,
 }
 
 // Walks all groups of a sheet on a word, in its own place.
-pub fn walk_groups(sheet: &[u8], table: &[u16], word: &mut [u8]) -> Walked
+pub(crate) fn walk_groups(sheet: &[u8], table: &[u16], word: &mut [u8]) -> Walked
     requires { ⌜ Accepted (now sheet) ⌝ }
     ensures { λ r. ⌜ WalkedAs (walkWord (now (table .entry)) (groupsOf (now (sheet .entry))) (now (word .entry))) r (now (word .exit)) ⌝ }
 {

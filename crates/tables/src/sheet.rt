@@ -11,7 +11,7 @@ use sheets::reader::draw;
 use sheets::records::Record;
 
 // How many groups the sheet has.
-pub fn group_count(sheet: &[u8]) -> usize
+pub(crate) fn group_count(sheet: &[u8]) -> usize
     requires { ⌜ Accepted (now sheet) ⌝ }
     ensures { λ r. ⌜ r ≡ length (groupsOf (now (sheet .entry))) ⌝ }
 {
@@ -50,7 +50,7 @@ fn clear(table: &mut [u16])
 }
 
 // Lays out the sheet of these groups: their roots, and then what the rules add.
-pub fn lay(sheet: &[u8], table: &mut [u16], groups: usize)
+pub(crate) fn lay(sheet: &[u8], table: &mut [u16], groups: usize)
     requires { ⌜ Accepted (now sheet) × ((0 < groups) × ((groups ≡ length (groupsOf (now sheet))) × (length (now table) ≡ 4 * nodeCount (groupsOf (now sheet))))) ⌝ }
     ensures { λ r. ⌜ now (table .exit) ≡ tableOf (groupsOf (now (sheet .entry))) ⌝ }
 {

@@ -5,14 +5,14 @@ ghost use lib.ListN.{getD};
 ghost use Rattle.paper.specs.Letters.{inward};
 ghost use Rattle.tables.specs.Walk.{child as childOf, deepest as deepestOf, reached, held};
 
-pub fn wide(byte: u8) -> usize
+pub(crate) fn wide(byte: u8) -> usize
     ensures { λ r. ⌜ r ≡ byte ⌝ }
 {
     byte as usize
 }
 
 // The number at a place of the table.
-pub fn number_at(table: &[u16], place: usize) -> usize
+pub(crate) fn number_at(table: &[u16], place: usize) -> usize
     ensures { λ r. ⌜ (r ≡ getD (now (table .entry)) place 0) × (r < 65536) ⌝ }
 {
     if place < table.len() {
@@ -23,7 +23,7 @@ pub fn number_at(table: &[u16], place: usize) -> usize
 }
 
 // The child of this letter, 0 for none.
-pub fn child(table: &[u16], parent: usize, letter: usize) -> usize
+pub(crate) fn child(table: &[u16], parent: usize, letter: usize) -> usize
     requires { ⌜ parent < 65536 ⌝ }
     ensures { λ r. ⌜ (r ≡ childOf (now (table .entry)) parent letter) × (r < 65536) ⌝ }
 {
@@ -43,7 +43,7 @@ pub fn child(table: &[u16], parent: usize, letter: usize) -> usize
 }
 
 // The rule that the deepest node passed holds, of those that hold one, when the word's letters are followed from the root.
-pub fn deepest(table: &[u16], root: usize, word: &[u8]) -> usize
+pub(crate) fn deepest(table: &[u16], root: usize, word: &[u8]) -> usize
     requires { ⌜ root < 65536 ⌝ }
     ensures { λ r. ⌜ r ≡ deepestOf (now (table .entry)) root (inward (now (word .entry))) ⌝ }
 {
@@ -65,7 +65,7 @@ pub fn deepest(table: &[u16], root: usize, word: &[u8]) -> usize
 }
 
 // The rule that the node holds to which an ending's letters lead from the root, 0 for none.
-pub fn held_at(table: &[u16], root: usize, ending: &[u8]) -> usize
+pub(crate) fn held_at(table: &[u16], root: usize, ending: &[u8]) -> usize
     requires { ⌜ root < 65536 ⌝ }
     ensures { λ r. ⌜ r ≡ held (now (table .entry)) (reached (now (table .entry)) root (now (ending .entry))) ⌝ }
 {

@@ -26,7 +26,7 @@ fn fill(word: &mut [u8], from: usize)
 }
 
 // A run on a word, whose table is known to be the sheet's: "1, 2, 4 for a word".
-pub fn word_run(sheet: &[u8], table: &[u16], word: &mut [u8]) -> Ran
+pub(crate) fn word_run(sheet: &[u8], table: &[u16], word: &mut [u8]) -> Ran
     requires { ⌜ Accepted (now sheet) ⌝ }
     ensures { λ r. ⌜ RanAs (wordOutcome (walkWord (now (table .entry)) (groupsOf (now (sheet .entry)))) (now (word .entry))) r (now (word .exit)) ⌝ }
 {

@@ -9,7 +9,7 @@ use lib.Dec.{leb, eqb}
 use borrow.Author.Tests.{eqb-true, eqb-false}
 use Rattle.texts.specs.Pieces.{isLetter}
 use Rattle.texts.specs.Texts.{lowered}
-use Rattle.texts.specs.LongestRuns.{both-first, both-second}
+use Rattle.paper.specs.TestLaws.{and-left, and-right}
 
 -- a test of every number below a bound
 
@@ -20,10 +20,10 @@ every test (suc n) = test n && every test n
 every-at : (test : ℕ → Bool) (n : ℕ) → every test n ≡ true → (k : ℕ) → k < n → test k ≡ true
 unfolding every
 every-at test zero all k below = absurd (omega arith)
-every-at test (suc n) all k below = go (every-at test n (both-second (test n) (every test n) all) k) (eqb k n) refl
+every-at test (suc n) all k below = go (every-at test n (and-right (test n) (every test n) all) k) (eqb k n) refl
   where
     go : (k < n → test k ≡ true) → (same : Bool) → eqb k n ≡ same → test k ≡ true
-    go shorter true same = ap test (eqb-true k n same) ∙ both-first (test n) (every test n) all
+    go shorter true same = ap test (eqb-true k n same) ∙ and-left (test n) (every test n) all
     go shorter false other = shorter (omega (arith, eqb-false k n other))
 
 -- the byte with the bit is from a to z exactly if the byte is a letter, and is then the letter made small
@@ -44,10 +44,10 @@ same false false is = refl
 
 pub letter-by-bit : (byte : ℕ) → byte < 256 → isLetter byte ≡ (leb 97 (bitOr byte 32) && leb (bitOr byte 32) 122)
 unfolding right
-letter-by-bit byte below = same _ _ (both-first _ _ (every-at right 256 all-right byte below))
+letter-by-bit byte below = same _ _ (and-left _ _ (every-at right 256 all-right byte below))
 
 pub small-by-bit : (byte : ℕ) → byte < 256 → isLetter byte ≡ true → bitOr byte 32 ≡ lowered byte
 unfolding right
 small-by-bit byte below letter =
-    let second = both-second (Bool·beq (isLetter byte) _) _ (every-at right 256 all-right byte below) in
+    let second = and-right (Bool·beq (isLetter byte) _) _ (every-at right 256 all-right byte below) in
     eqb-true (bitOr byte 32) (lowered byte) (rw letter at second)

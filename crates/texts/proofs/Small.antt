@@ -9,14 +9,15 @@ use lib.ListN.{length, take, drop, getD, set, length-append, length-map, length-
 use lib.Seq.{take-suc, drop-cons, set-at, getD-at, length-take-le, take-all}
 use Rattle.texts.specs.Pieces.{isLetter}
 use Rattle.texts.specs.Texts.{lowered}
-use Rattle.texts.specs.LongestRuns.{both-first, both-second, allLetters}
+use Rattle.texts.specs.LongestRuns.{allLetters}
+use Rattle.paper.specs.TestLaws.{and-left, and-right}
 
 pub letter-at : (word : List ℕ) (at : ℕ) → allLetters word ≡ true → at < length word → isLetter (getD word at 0) ≡ true
 unfolding allLetters
 letter-at [] at all inside = absurd (omega arith)
-letter-at (byte ∷ bytes) zero all inside = both-first (isLetter byte) (allLetters bytes) all
+letter-at (byte ∷ bytes) zero all inside = and-left (isLetter byte) (allLetters bytes) all
 letter-at (byte ∷ bytes) (suc at) all inside =
-    letter-at bytes at (both-second (isLetter byte) (allLetters bytes) all) (omega arith)
+    letter-at bytes at (and-right (isLetter byte) (allLetters bytes) all) (omega arith)
 
 unfoldable pub smallTo : List ℕ → ℕ → List ℕ
 smallTo word at = map lowered (take at word) ++ drop at word

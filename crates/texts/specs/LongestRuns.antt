@@ -8,22 +8,11 @@ use native.Mathlib.Omega.{arith}
 use lib.ListN.{length}
 use Rattle.texts.specs.Pieces.{isLetter, Piece, word, other, withLetter, pieces}
 use Rattle.texts.specs.PiecesLaws.{joined, pieces-letter, pieces-other, startsOutside, endsOutside, pieces-cut}
+use Rattle.paper.specs.TestLaws.{and-left, and-right, or-right}
 
 unfoldable pub allLetters : List ℕ → Bool
 allLetters [] = true
 allLetters (byte ∷ bytes) = isLetter byte && allLetters bytes
-
-pub both-first : (a b : Bool) → (a && b) ≡ true → a ≡ true
-both-first true b both = refl
-both-first false b both = both
-
-pub both-second : (a b : Bool) → (a && b) ≡ true → b ≡ true
-both-second true b both = both
-both-second false b both = absurd (true≢false (sym both))
-
-pub either : (a b : Bool) → b ≡ true → (a || b) ≡ true
-either true b second = refl
-either false b second = second
 
 -- at least one byte, and nothing but letters
 pub record IsWord (letters : List ℕ) : Type 0 where
@@ -63,17 +52,17 @@ pieces-longest (byte ∷ bytes) = go (pieces-longest bytes) (isLetter byte) refl
 alone : (letter : ℕ) (letters : List ℕ) → allLetters (letter ∷ letters) ≡ true
     → pieces (letter ∷ letters) ≡ word (letter ∷ letters) ∷ []
 unfolding allLetters pieces withLetter
-alone letter [] all = rw (pieces-letter letter [] (both-first (isLetter letter) true all))
+alone letter [] all = rw (pieces-letter letter [] (and-left (isLetter letter) true all))
 alone letter (next ∷ letters) all =
-    let is : isLetter letter ≡ true = both-first (isLetter letter) (allLetters (next ∷ letters)) all in
-    let rest : allLetters (next ∷ letters) ≡ true = both-second (isLetter letter) (allLetters (next ∷ letters)) all in
+    let is : isLetter letter ≡ true = and-left (isLetter letter) (allLetters (next ∷ letters)) all in
+    let rest : allLetters (next ∷ letters) ≡ true = and-right (isLetter letter) (allLetters (next ∷ letters)) all in
     rw (pieces-letter letter (next ∷ letters) is, alone next letters rest)
 
 pub pieces-word : (letters back : List ℕ) → IsWord letters → startsOutside back ≡ true
     → pieces (letters ++ back) ≡ word letters ∷ pieces back
 pieces-word [] back is outside = absurd (omega (arith, is .some))
 pieces-word (letter ∷ letters) back is outside =
-    let cut = either (endsOutside (letter ∷ letters)) (startsOutside back) outside in
+    let cut = or-right (endsOutside (letter ∷ letters)) (startsOutside back) outside in
     pieces-cut (letter ∷ letters) back cut ∙ ap (λ (l : List Piece). l ++ pieces back) (alone letter letters (is .all))
 
 outside-joined : (rest : List Piece) → startsWithWord rest ≡ false → LongestRuns rest → startsOutside (joined rest) ≡ true

@@ -27,7 +27,8 @@ use Rattle.texts.specs.Texts.{
   runText,
 }
 use Rattle.texts.specs.PiecesLaws.{joined, joined-pieces, pieces-other, startsOutside, endsOutside, pieces-cut}
-use Rattle.texts.specs.LongestRuns.{either, IsWord, LongestRuns, pieces-longest, pieces-word}
+use Rattle.texts.specs.LongestRuns.{IsWord, LongestRuns, pieces-longest, pieces-word}
+use Rattle.paper.specs.TestLaws.{or-right}
 
 -- Parts of a text one after the other.
 
@@ -97,7 +98,7 @@ module _ (rule : List ℕ → Reading) where
       ≡ runText rule front then record { text = byte ∷ []; stemmed = 0; left = 0 } then runText rule back
   unfolding runText ofPieces ofPiece
   run-other front byte back separates =
-      run-cut front (byte ∷ back) (either (endsOutside front) _ (ap not separates))
+      run-cut front (byte ∷ back) (or-right (endsOutside front) _ (ap not separates))
       ∙ ap (λ (list : List Piece). runText rule front then ofPieces rule list) (pieces-other byte back separates)
 
   -- Words over 64 letters stay with their capitals.

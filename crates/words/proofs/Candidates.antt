@@ -12,7 +12,8 @@ use lib.Seq.{getD-append-add, getD-at}
 use borrow.Author.Tests.{eq-eqb}
 use Rattle.paper.specs.Letters.{letterAt, inward}
 use Rattle.paper.specs.Groups.{Rule, Group, endsWith, before, which, first, fitting, longest, obeyed}
-use Rattle.paper.specs.GroupsLaws.{and-both, ends-split}
+use Rattle.paper.specs.TestLaws.{and-parts}
+use Rattle.paper.specs.GroupsLaws.{ends-split}
 use Rattle.paper.specs.ReadingLaws.{every, every-in, narrowed, same-fitting, obeys, obeyed-in-turn}
 use Rattle.paper.specs.Words.{small}
 use Rattle.paper.specs.Shipped.{shipped}
@@ -123,8 +124,8 @@ groups-tidy (group ∷ groups) = every tidy (group .rules) && groups-tidy groups
 tidy-at : (g : ℕ) (groups : List Group) → groups-tidy groups ≡ true → every tidy (getD groups g noGroup .rules) ≡ true
 unfolding groups-tidy every noGroup
 tidy-at g [] t = refl
-tidy-at zero (group ∷ groups) t = and-both (every tidy (group .rules)) (groups-tidy groups) t .0
-tidy-at (suc g) (group ∷ groups) t = tidy-at g groups (and-both (every tidy (group .rules)) (groups-tidy groups) t .1)
+tidy-at zero (group ∷ groups) t = and-parts (every tidy (group .rules)) (groups-tidy groups) t .0
+tidy-at (suc g) (group ∷ groups) t = tidy-at g groups (and-parts (every tidy (group .rules)) (groups-tidy groups) t .1)
 
 shipped-tidy : groups-tidy shipped ≡ true
 unfolding groups-tidy every tidy letterAt inward shipped

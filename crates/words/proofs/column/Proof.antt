@@ -10,7 +10,7 @@ use lib.Dec.{leb}
 use lib.ListN.{length, getD, List·getD-eq-default, length-reverse}
 use Rattle.paper.specs.Letters.{letterAt, inward}
 use Rattle.paper.specs.LettersLaws.{letterAt-index}
-use Rattle.paper.specs.GroupsLaws.{and-both}
+use Rattle.paper.specs.TestLaws.{and-parts}
 use Rattle.paper.specs.Words.{small}
 use Rattle.words.proofs.column.Statement.{statement}
 use Rattle.words.proofs.column.Tie as tie
@@ -18,7 +18,7 @@ use Rattle.words.proofs.column.Tie as tie
 -- what a small letter is
 is-small : (letter : ℕ) → small letter ≡ true → (97 ≤ letter) × (letter ≤ 122)
 is-small letter e =
-    let both = and-both (leb 97 letter) (leb letter 122) e in
+    let both = and-parts (leb 97 letter) (leb letter 122) e in
     (leb-true 97 letter (both .0), leb-true letter 122 (both .1))
 
 last-is : (word : List ℕ) → 0 < length word → letterAt 0 word ≡ getD word (length word - 1) 0

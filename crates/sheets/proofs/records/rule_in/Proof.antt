@@ -25,7 +25,7 @@ use Rattle.sheets.specs.Records.{
   faultyRule,
 }
 use Rattle.sheets.specs.Answers.{ruleRecord}
-use Rattle.sheets.specs.Tests.{neither-right}
+use Rattle.paper.specs.TestLaws.{neither-right}
 use Rattle.sheets.proofs.records.rule_in.Statement.{statement}
 use Rattle.sheets.proofs.records.rule_in.Tie as tie
 
