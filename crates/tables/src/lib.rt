@@ -9,13 +9,13 @@ mod runs;
 mod sheet;
 pub mod shipped;
 mod walks;
-mod words;
+mod word_runs;
 
 use runs::same_numbers;
 use sheet::group_count;
 use sheet::lay;
 use sheets::Checked;
-use words::word_run;
+use word_runs::word_run;
 
 // What a translation answers: the nodes that it laid out, the place of the sheet's first faulty record, or that the lent table
 // is too short.

@@ -17,8 +17,8 @@ use Rattle.tables.specs.RanLaws.{
   word-back,
 }
 use borrow.Author.Needs.{needs}
-use Rattle.tables.proofs.words.word_run.Statement.{statement}
-use Rattle.tables.proofs.words.word_run.Tie as tie
+use Rattle.tables.proofs.word_runs.word_run.Statement.{statement}
+use Rattle.tables.proofs.word_runs.word_run.Tie as tie
 
 returns : tie.Need-returns
 returns c =

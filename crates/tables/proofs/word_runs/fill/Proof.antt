@@ -5,8 +5,8 @@ use native.Mathlib.Omega.{arith}
 use lib.ListN.{length, replicate, length-set}
 use lib.Seq.{paste, paste-zero}
 use Rattle.tables.specs.RunSteps.{fill-next, fill-over}
-use Rattle.tables.proofs.words.fill.Statement.{statement}
-use Rattle.tables.proofs.words.fill.Tie as tie
+use Rattle.tables.proofs.word_runs.fill.Statement.{statement}
+use Rattle.tables.proofs.word_runs.fill.Tie as tie
 
 abbrev Inv-loop : tie.InvT-loop
 Inv-loop word₀ from i₀ word i =
