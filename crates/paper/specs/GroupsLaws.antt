@@ -62,7 +62,8 @@ pub ends-short : (word s1 : List ℕ) → length word < length s1 → endsWith w
 unfolding endsWith
 ends-short word s1 short =
     differ-same _ s1
-    (λ e. let whole : length (drop (length word - length s1) word) ≡ length s1 = ap length e in omega (arith, length-drop (length word - length s1) word))
+    (λ e. let whole : length (drop (length word - length s1) word)
+    ≡ length s1 = ap length e in omega (arith, length-drop (length word - length s1) word))
 
 pub ends-yes :
     (word s1 : List ℕ)

@@ -72,12 +72,14 @@ pub group-length :
 unfolding readGroup resultOf tame-rule
 group-length n word rules t = go (obeyed word rules) refl
   where
-    go : (choice : Option Rule) → obeyed word rules ≡ choice → length (resultOf word choice .word) + one-if (resultOf word choice .opened) ≤ length word + n
+    go : (choice : Option Rule) → obeyed word rules ≡ choice
+        → length (resultOf word choice .word) + one-if (resultOf word choice .opened) ≤ length word + n
     go none e = omega arith
     go (some one) e =
         let found = obeyed-first word rules one e .chosen-one in
         let short = ending-short word (one .ending) (found .ends) in
-        let bound : writes (one .action) + one-if (one .opens) ≤ length (one .ending) + n = leb-true _ _ (every-in (tame-rule n) rules t (found .stands)) in
+        let bound : writes (one .action) + one-if (one .opens) ≤ length (one .ending) + n = leb-true _ _ (every-in
+        (tame-rule n) rules t (found .stands)) in
         let acted = act-length (one .action) (before word (one .ending)) in
         omega (arith, before-length word (one .ending))
 

@@ -158,7 +158,8 @@ chosen-longest word rules {rule} m =
     record {
       stands = fits .0;
       ends = fits .1;
-      most = λ other stands ends. let n = longest-of (fitting word rules) (in-which (λ r. endsWith word (r .ending)) rules stands ends) in omega arith;
+      most = λ other stands ends. let n = longest-of (fitting word rules) (in-which (λ r. endsWith word
+          (r .ending)) rules stands ends) in omega arith;
     }
 
 -- ══ Of the rules with that ending, the first that holds is obeyed ══
@@ -179,7 +180,8 @@ pub obeyed-first : (word : List ℕ) (rules : List Rule) (rule : Rule) → obeye
 unfolding obeyed
 obeyed-first word rules rule e =
     let split = first-split (applies word) (chosen word rules) rule e in
-    let in-chosen : List·Memᴰ rule (chosen word rules) = subst (λ (rs : List Rule). List·Memᴰ rule rs) (sym (split .2)) (Memᴰ·append-right (split .0) (List·Memᴰ·head refl)) in
+    let in-chosen : List·Memᴰ rule (chosen word rules) = subst (λ (rs : List Rule). List·Memᴰ rule rs) (sym (split .2))
+    (Memᴰ·append-right (split .0) (List·Memᴰ·head refl)) in
     record {
       chosen-one = chosen-longest word rules in-chosen;
       earlier = split .0;
@@ -208,7 +210,8 @@ pub narrowed :
     → fitting word (which test rules) ≡ fitting word rules
 unfolding fitting which
 narrowed word test [] needed = refl
-narrowed word test (one ∷ rules) needed = go (narrowed word test rules (λ rule m. needed rule (List·Memᴰ·tail m))) (test one) refl (endsWith word (one .ending)) refl
+narrowed word test (one ∷ rules) needed = go (narrowed word test rules (λ rule m. needed rule (List·Memᴰ·tail m)))
+    (test one) refl (endsWith word (one .ending)) refl
   where
     ends : Rule → Bool
     ends rule = endsWith word (rule .ending)

@@ -42,7 +42,9 @@ samples =
     ∷ []
 
 pub samples-hold : map (λ s. stem (letters (s .0))) samples ≡ map (λ s. done (letters (s .1))) samples
-unfolding among vowelAfter classAfter inward classOf letterAt classAt rises measure someVowel *v* *d *o lastIs conditions holds same endsWith before which first fitting longest chosen obeyed act resultOf readGroup read shipped readWord stem samples
+unfolding among vowelAfter classAfter inward classOf letterAt classAt rises measure someVowel *v* *d *o lastIs
+    conditions holds same endsWith before which first fitting longest chosen obeyed act resultOf readGroup read shipped
+    readWord stem samples
 samples-hold = refl
 
 -- a part and its measure

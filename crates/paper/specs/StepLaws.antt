@@ -26,9 +26,15 @@ module _ (place : ℕ) (groups : List Group) (other : Group) (k : ℕ) (known : 
   unfolding read
   fits run done = go (decLe (length (readGroup word (getD groups k other .rules) .word)) place)
     where
-      go : Dec (length (readGroup word (getD groups k other .rules) .word) ≤ place) → length (readGroup word (getD groups k other .rules) .word) ≤ place
+      go : Dec (length (readGroup word (getD groups k other .rules) .word) ≤ place)
+          → length (readGroup word (getD groups k other .rules) .word) ≤ place
       go (yes short) = short
-      go (no long) = absurd (done (rw (drop-cons groups k other known, run, lt-leb (length (readGroup word (getD groups k other .rules) .word)) place (omega arith))))
+      go (no long) = absurd (done (rw (
+        drop-cons groups k other known,
+        run,
+        lt-leb (length (readGroup word
+            (getD groups k other .rules) .word)) place (omega arith),
+      )))
 
   pub ran :
       runs (getD groups k other .gate) opened ≡ true

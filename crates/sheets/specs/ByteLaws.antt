@@ -41,7 +41,11 @@ module _ (k : ℕ) (b more : List ℕ) where
 
   pub whole-read : cut (recordOf k b ++ more) ≡ false
   unfolding cut
-  whole-read = rw (size-read, length-read) (simp (le-ltb (4 + (length b + length more)) 4 (omega arith), le-ltb (4 + (length b + length more) - 4) (length b) (omega arith)))
+  whole-read = rw (size-read, length-read) (simp (
+    le-ltb (4 + (length b + length more)) 4 (omega arith),
+    le-ltb (4 +
+        (length b + length more) - 4) (length b) (omega arith),
+  ))
 
 -- ## A record that is read is its bytes
 pub long : (rest : List ℕ) → cut rest ≡ false → 4 ≤ length rest
@@ -50,7 +54,8 @@ long rest whole = ltb-false (length rest) 4 (neither-left (ltb (length rest) 4) 
 
 pub fitting : (rest : List ℕ) → cut rest ≡ false → bodyLength rest ≤ length rest - 4
 unfolding cut
-fitting rest whole = ltb-false (length rest - 4) (bodyLength rest) (neither-right (ltb (length rest) 4) (ltb (length rest - 4) (bodyLength rest)) whole)
+fitting rest whole = ltb-false (length rest - 4) (bodyLength rest) (neither-right (ltb (length rest) 4) (ltb
+    (length rest - 4) (bodyLength rest)) whole)
 
 pub length-body : (rest : List ℕ) → cut rest ≡ false → length (body rest) ≡ bodyLength rest
 unfolding body

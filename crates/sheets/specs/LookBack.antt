@@ -114,7 +114,8 @@ unfolding tails member
 closed-tails [] x y t is = absurd (false≢true is)
 closed-tails (a ∷ f) x y t is =
     either (same (x ∷ y ∷ t) (a ∷ f)) (member (x ∷ y ∷ t) (tails f)) is
-    (λ eq. let e = same-equal (x ∷ y ∷ t) (a ∷ f) eq in let rest : f ≡ y ∷ t = cc in rw rest (simp (same-self (y ∷ t)) (or-true (same (y ∷ t) (a ∷ y ∷ t)))))
+    (λ eq. let e = same-equal (x ∷ y ∷ t) (a ∷ f) eq in let rest : f
+    ≡ y ∷ t = cc in rw rest (simp (same-self (y ∷ t)) (or-true (same (y ∷ t) (a ∷ y ∷ t)))))
     (λ further. rw (closed-tails f x y t further) (or-true (same (y ∷ t) (a ∷ f))))
 
 closed-append : (xs ys : List (List ℕ)) → Closed xs → Closed ys → Closed (xs ++ ys)
@@ -186,7 +187,13 @@ tails-of-append (x ∷ xs) ys = rw (tails-of-append xs ys) (sym (append-assoc (t
 appended : (earlier : List Rule) (rule : Rule) → Alike (tails (rule .ending) ++ tailsOf earlier) (tailsOf (earlier ++ (rule ∷ [])))
 unfolding tailsOf member
 appended earlier rule t =
-    rw (tails-of-append earlier (rule ∷ []), member-append t (tails (rule .ending)) (tailsOf earlier), member-append t (tailsOf earlier) (tailsOf (rule ∷ [])), member-append t (tails (rule .ending)) [])
+    rw (
+      tails-of-append earlier (rule ∷ []),
+      member-append t (tails (rule .ending)) (tailsOf earlier),
+      member-append t
+          (tailsOf earlier) (tailsOf (rule ∷ [])),
+      member-append t (tails (rule .ending)) [],
+    )
     (swap (member t (tails (rule .ending))) (member t (tailsOf earlier)))
   where
     swap : (a b : Bool) → a || b ≡ b || (a || false)
@@ -225,7 +232,8 @@ fresh (x ∷ e) longer seen more closed none =
         let new-one = new (longer ++ seen) (x ∷ e) (tails e ++ more) (here ∙ is) in
         let rest = further is in
         let short = shared-at-most e seen in
-        let alike = distinct-alike more (tails e ++ ((x ∷ e) ∷ longer ++ seen)) ((x ∷ e) ∷ (tails e ++ (longer ++ seen))) (swapped (x ∷ e) (tails e) (longer ++ seen)) in
+        let alike = distinct-alike more (tails e ++ ((x ∷ e) ∷ longer ++ seen)) ((x ∷ e) ∷ (tails e ++
+        (longer ++ seen))) (swapped (x ∷ e) (tails e) (longer ++ seen)) in
         rw is (omega arith)
 
 -- a rule after these, and its tails beside theirs

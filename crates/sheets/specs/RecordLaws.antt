@@ -64,7 +64,8 @@ module _ (rest : List ℕ) (whole : cut rest ≡ false) where
   kind-by true two three is not-two not-three = group-by (eqb-true _ _ is) (faultyGroup (body rest)) refl
   kind-by false true three not-one is not-three = rule-by (eqb-true _ _ is) (faultyRule (body rest)) refl
   kind-by false false true not-one not-two is = end-by (eqb-true _ _ is) (eqb (length rest) 4) refl
-  kind-by false false false not-one not-two not-three = a-fault (simp (whole, not-one, not-two, not-three)) (simp (whole, not-one, not-two, not-three))
+  kind-by false false false not-one not-two not-three = a-fault (simp (whole, not-one, not-two, not-three)) (simp
+      (whole, not-one, not-two, not-three))
 
 cut-by : (rest : List ℕ) (short : Bool) → cut rest ≡ short → Alone rest
 unfolding faultyAlone recordIn

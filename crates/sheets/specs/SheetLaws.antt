@@ -29,16 +29,34 @@ module _ (groups rules : ℕ) (rest : List ℕ) where
   pub group-fault : cut rest ≡ false → kind rest ≡ 1 → faultyGroup (body rest) ≡ false
       → faulty groups rules rest ≡ misplacedGroup groups (body rest)
   unfolding faulty faultyAlone misplaced
-  group-fault whole is sound = rw (whole, at-group rest (faultyGroup (body rest)) (faultyRule (body rest)) (faultyEnd rest) true is, at-group rest _ _ _ _ is, sound) refl
+  group-fault whole is sound = rw (
+    whole,
+    at-group rest (faultyGroup (body rest)) (faultyRule (body rest))
+        (faultyEnd rest) true is,
+    at-group rest _ _ _ _ is,
+    sound,
+  ) refl
 
   pub rule-fault : cut rest ≡ false → kind rest ≡ 2 → faultyRule (body rest) ≡ false
       → faulty groups rules rest ≡ misplacedRule groups rules
   unfolding faulty faultyAlone misplaced
-  rule-fault whole is sound = rw (whole, at-rule rest (faultyGroup (body rest)) (faultyRule (body rest)) (faultyEnd rest) true is, at-rule rest _ _ _ _ is, sound) refl
+  rule-fault whole is sound = rw (
+    whole,
+    at-rule rest (faultyGroup (body rest)) (faultyRule (body rest))
+        (faultyEnd rest) true is,
+    at-rule rest _ _ _ _ is,
+    sound,
+  ) refl
 
   end-fault : cut rest ≡ false → kind rest ≡ 3 → length rest ≡ 4 → faulty groups rules rest ≡ false
   unfolding faulty faultyAlone misplaced faultyEnd
-  end-fault whole is last = rw (whole, at-end rest (faultyGroup (body rest)) (faultyRule (body rest)) (faultyEnd rest) true is, at-end rest _ _ _ _ is, last) refl
+  end-fault whole is last = rw (
+    whole,
+    at-end rest (faultyGroup (body rest)) (faultyRule (body rest))
+        (faultyEnd rest) true is,
+    at-end rest _ _ _ _ is,
+    last,
+  ) refl
 
 -- ## One step of reading
 module _ (more groups rules place : ℕ) (rest : List ℕ) where
@@ -119,13 +137,16 @@ module _ (more other groups rules place : ℕ) (rest : List ℕ) where
   same-step further a b (found-fault is) = fault-step more groups rules place rest is ∙ sym (fault-step other groups rules place rest is)
   same-step further a b (found-group whole is sound well) =
       group-step more groups rules place rest whole is sound well
-      ∙ (ap (groupThen (gate (body rest))) (further (suc groups) rules (place + (4 + bodyLength rest)) (after rest) (shorter rest more whole a) (shorter rest other whole b))
+      ∙ (ap (groupThen (gate (body rest))) (further (suc groups) rules (place + (4 + bodyLength rest)) (after rest)
+      (shorter rest more whole a) (shorter rest other whole b))
       ∙ sym (group-step other groups rules place rest whole is sound well))
   same-step further a b (found-rule whole is sound well) =
       rule-step more groups rules place rest whole is sound well
-      ∙ (ap (ruleThen (rule (body rest))) (further groups (suc rules) (place + (4 + bodyLength rest)) (after rest) (shorter rest more whole a) (shorter rest other whole b))
+      ∙ (ap (ruleThen (rule (body rest))) (further groups (suc rules) (place + (4 + bodyLength rest)) (after rest)
+      (shorter rest more whole a) (shorter rest other whole b))
       ∙ sym (rule-step other groups rules place rest whole is sound well))
-  same-step further a b (found-end whole is last) = end-step more groups rules place rest whole is last ∙ sym (end-step other groups rules place rest whole is last)
+  same-step further a b (found-end whole is last) = end-step more groups rules place rest whole is last
+      ∙ sym (end-step other groups rules place rest whole is last)
 
 pub enough : (more other groups rules place : ℕ) (rest : List ℕ) → length rest ≤ more → length rest ≤ other
     → readRest more groups rules place rest ≡ readRest other groups rules place rest

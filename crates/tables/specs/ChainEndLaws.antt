@@ -21,7 +21,8 @@ pub data Ends (nodes : List Node) (parent : Node) (later : List Node) (link plac
       → Every (λ one. isChild parent one ≡ false) back → place ≡ 4 * length front + 2 → Ends nodes parent later link place
 
 -- a child stands before the rest, so that the chain goes on from its own link
-after-child : (nodes : List Node) (parent : Node) (before : List Node) (one : Node) (later : List Node) (link place : ℕ) → before ++ one ∷ later ≡ nodes
+after-child : (nodes : List Node) (parent : Node) (before : List Node) (one : Node) (later : List Node) (link place : ℕ)
+    → before ++ one ∷ later ≡ nodes
     → isChild parent one ≡ true → Ends nodes parent later (4 * length before + 2) place → Ends nodes parent (one ∷ later) link place
 after-child nodes parent before one later link place split p (no-more e q) = last-child before one later split p e q
 after-child nodes parent before one later link place split p (last-child front last back s h e q) = last-child front last back s h e q
@@ -46,7 +47,8 @@ chain-ends nodes rules parent (suc steps) before (one ∷ later) link split h l 
     by-test (isChild parent one)
     (λ p.
     let read : getD table link 0 ≡ length before = rw p at e in
-    let siblings = number-cong (isSibling (one .group) (one .tail)) (isChild parent) (child-siblings parent (one .group) (one .tail) p) (suc (length before)) later in
+    let siblings = number-cong (isSibling (one .group) (one .tail)) (isChild parent) (child-siblings parent (one .group)
+    (one .tail) p) (suc (length before)) later in
     let next = next-sibling-at nodes rules before one later split ∙ siblings in
     let on = chain-ends nodes rules parent steps (before ++ one ∷ []) later (4 * length before + 2) moved beyond (omega arith) (rw passed next) in
     after-child nodes parent before one later link _ split p (rw (read, ne-eqb (length before) 0 (λ z. omega arith)) on))

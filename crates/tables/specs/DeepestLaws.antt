@@ -50,7 +50,8 @@ module _ (table : List ℕ) (root : ℕ) where
   heldOf : List ℕ → ℕ
   heldOf tail = held table (reached table root tail)
 
-  held-at : (tail : List ℕ) (at : ℕ) → reached table root tail ≡ some at → longestIn heldOf tail ≡ cond (eqb (firstRule table at) 0) (shorterIn heldOf tail) (firstRule table at)
+  held-at : (tail : List ℕ) (at : ℕ) → reached table root tail ≡ some at
+      → longestIn heldOf tail ≡ cond (eqb (firstRule table at) 0) (shorterIn heldOf tail) (firstRule table at)
   unfolding held heldOf
   held-at tail at e =
       let here : heldOf tail ≡ firstRule table at = rw e in

@@ -64,14 +64,17 @@ one-letter root others rules group letter parent now room inner =
     let nodes = node root [] ∷ others in
     let new = node group (letter ∷ parent) in
     let there = node root [] ∷ inner .more in
-    let last : added nodes (way group (letter ∷ parent)) ≡ cond (present new there) there (there ++ new ∷ []) = rw (inner .nodes) at (way-last nodes group letter parent) in
-    let long : length (grow letter (enter (inward parent) now) .table) ≡ length (now .table) = grow-length letter (enter (inward parent) now) ∙ inner .same-length in
+    let last : added nodes (way group (letter ∷ parent)) ≡ cond (present new there) there (there ++ new ∷ []) = rw
+    (inner .nodes) at (way-last nodes group letter parent) in
+    let long : length (grow letter (enter (inward parent) now) .table)
+    ≡ length (now .table) = grow-length letter (enter (inward parent) now) ∙ inner .same-length in
     by-test (present new there)
     (λ p.
     record {
       more = inner .more;
       nodes = last ∙ rw p;
-      standing = rw (enter-letter letter parent now) (standing-found root (inner .more) rules (node group parent) letter (enter (inward parent) now) (inner .standing) p);
+      standing = rw (enter-letter letter parent now) (standing-found root (inner .more) rules (node group parent) letter
+          (enter (inward parent) now) (inner .standing) p);
       same-length = rw (enter-letter letter parent now) long;
     })
     (λ p.
@@ -81,7 +84,8 @@ one-letter root others rules group letter parent now room inner =
     record {
       more = inner .more ++ new ∷ [];
       nodes = grown;
-      standing = rw (enter-letter letter parent now) (standing-added root (inner .more) rules (node group parent) letter (enter (inward parent) now) (inner .standing) p space);
+      standing = rw (enter-letter letter parent now) (standing-added root (inner .more) rules (node group parent) letter
+          (enter (inward parent) now) (inner .standing) p space);
       same-length = rw (enter-letter letter parent now) long;
     })
 

@@ -97,7 +97,10 @@ walked-obeyed table root number rules h faithful word =
     let number-at = faithful .holding in
     let found = longestIn (firstWith number rules) word in
     let walks : deepest table root (inward word) ≡ found = deepest-longest table root word ∙ longest-cong _ _ number-at word in
-    let one-ending : which (λ rule. eqb found (held table (reached table root (rule .ending)))) (drop (found - number) rules) ≡ which (λ rule. eqb found (firstWith number rules (rule .ending))) (drop (found - number) rules) = which-cong _ _ (λ rule. rw (number-at (rule .ending))) (drop (found - number) rules) in
+    let one-ending : which (λ rule. eqb found (held table (reached table root (rule .ending)))) (drop
+    (found - number) rules) ≡ which (λ rule. eqb found (firstWith number rules (rule .ending))) (drop
+    (found - number) rules) = which-cong _ _ (λ rule. rw (number-at (rule .ending))) (drop
+    (found - number) rules) in
     rw walks
     (by-test (eqb found 0) (λ p. rw (p, none-chosen number rules word h (eqb-true found 0 p)))
     (λ p. rw (p, one-ending, some-chosen number rules word h (eqb-false found 0 p))))

@@ -33,7 +33,14 @@ pub record Counting (sheet : List ℕ) (at count : ℕ) : Type 0 where
 
 pub counting-start : (sheet : List ℕ) → Accepted sheet → Counting sheet 0 0
 counting-start sheet is =
-    record { rules = 0; list = []; more = groupsOf sheet; holds = holding-start sheet (groupsOf sheet) is; total = zero-add (length (groupsOf sheet)) }
+    record {
+      rules = 0;
+      list = [];
+      more = groupsOf sheet;
+      holds = holding-start sheet
+          (groupsOf sheet) is;
+      total = zero-add (length (groupsOf sheet));
+    }
 
 module _ (sheet : List ℕ) (at count : ℕ) (state : Counting sheet at count) where
   abbrev group-found : (number : ℕ) → GroupHere (drop at sheet) number → GroupNext sheet at count (state .rules) (state .list) (state .more)
@@ -46,7 +53,14 @@ module _ (sheet : List ℕ) (at count : ℕ) (state : Counting sheet at count) w
   counting-group number here =
       let next = group-found number here in
       let shorter = ap length (next .group-first) in (
-        record { rules = state .rules; list = next .rules-then; more = next .groups-then; holds = next .holds; total = omega (arith, state .total, shorter) },
+        record {
+          rules = state .rules;
+          list = next .rules-then;
+          more = next .groups-then;
+          holds = next .holds;
+          total =
+              omega (arith, state .total, shorter);
+        },
         next .inside,
         next .few,
       )
@@ -117,7 +131,8 @@ module _ (sheet table : List ℕ) (at root next rules count : ℕ) (state : Goin
       let found = group-next sheet at next rules (state .list) (state .more) (state .holds) number here in
       let shorter = ap length (found .group-first) in
       let left =
-      ends-group root next (state .list) (state .more) (found .gate-then) (found .rules-then) (found .groups-then) (found .none-before) (found .group-first) in (
+      ends-group root next (state .list) (state .more) (found .gate-then) (found .rules-then) (found .groups-then)
+      (found .none-before) (found .group-first) in (
         record {
           list = found .rules-then;
           more = found .groups-then;
@@ -140,7 +155,8 @@ module _ (sheet table : List ℕ) (at root next rules count : ℕ) (state : Goin
       let left = ends-rule root next (state .list) (state .more) (found .one) (found .rules-then) (found .rule-first) in
       let midway = subst (Midway (groupsOf sheet) table count rules) left (state .midway) in
       let stepped =
-      next-rule (groupsOf sheet) table count rules root (found .one .ending) (endsLeft root next (found .rules-then) (state .more)) midway (state .root-in)
+      next-rule (groupsOf sheet) table count rules root (found .one .ending) (endsLeft root next (found .rules-then)
+      (state .more)) midway (state .root-in)
       (state .room) table′ count′ (rules + 1) (rw (found .ending-here, add-one rules) at t) (rw (found .ending-here) at c) (add-one rules) in
       record {
         list = found .rules-then;
@@ -160,7 +176,8 @@ module _ (sheet table : List ℕ) (at root next rules count : ℕ) (state : Goin
   pub going-end : EndHere (drop at sheet) → table ≡ tableOf (groupsOf sheet)
   going-end here =
       let over = end-next sheet at next rules (state .list) (state .more) (state .holds) here in
-      midway-end (groupsOf sheet) table count rules (endsLeft root next (state .list) (state .more)) (ends-over root next (state .list) (state .more) (over .0) (over .1)) (state .midway) (state .room)
+      midway-end (groupsOf sheet) table count rules (endsLeft root next (state .list) (state .more))
+      (ends-over root next (state .list) (state .more) (over .0) (over .1)) (state .midway) (state .room)
 
 -- the table of an accepted sheet is small
 pub small-table : (sheet : List ℕ) → Accepted sheet → 4 * nodeCount (groupsOf sheet) ≤ 6208

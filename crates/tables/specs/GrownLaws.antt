@@ -73,4 +73,9 @@ grown-extends nodes [] = record { extra = []; after = sym (append-nil nodes) }
 grown-extends nodes (end ∷ more) =
     let first = added-extends nodes (way (end .group) (end .tail)) in
     let rest = grown-extends (added nodes (way (end .group) (end .tail))) more in
-    record { extra = first .extra ++ rest .extra; after = rest .after ∙ ap (λ (list : List Node). list ++ rest .extra) (first .after) ∙ append-assoc nodes (first .extra) (rest .extra) }
+    record {
+      extra = first .extra ++ rest .extra;
+      after = rest .after
+          ∙ ap (λ (list : List Node). list ++ rest .extra) (first .after)
+          ∙ append-assoc nodes (first .extra) (rest .extra);
+    }

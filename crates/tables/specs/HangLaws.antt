@@ -16,7 +16,8 @@ module _ (nodes rules : List Node) (new : Node) where
   abbrev Kept : Node → ℕ → List Node → Type 0
   Kept one number later =
       (numberOf (isChild one) 0 (nodes ++ new ∷ []) ≡ numberOf (isChild one) 0 nodes)
-      × (numberOf (isSibling (one .group) (one .tail)) (suc number) (later ++ new ∷ []) ≡ numberOf (isSibling (one .group) (one .tail)) (suc number) later)
+      × (numberOf (isSibling (one .group) (one .tail)) (suc number) (later ++ new ∷ [])
+      ≡ numberOf (isSibling (one .group) (one .tail)) (suc number) later)
 
   abbrev KeptFront : ℕ → List Node → List Node → Type 0
   KeptFront number [] back = Unit {0}
@@ -34,7 +35,8 @@ module _ (nodes rules : List Node) (new : Node) where
 
   -- a change in the row of the first after `front`
   rows-changed : (column count : ℕ) (last : List ℕ) (front back : List Node) (number : ℕ) → KeptFront number front back
-      → rows (nodes ++ new ∷ []) rules (number + length front) (back ++ new ∷ []) ≡ set (rows nodes rules (number + length front) back) column count ++ last
+      → rows (nodes ++ new ∷ []) rules (number + length front) (back ++ new ∷ [])
+      ≡ set (rows nodes rules (number + length front) back) column count ++ last
       → rows (nodes ++ new ∷ []) rules number ((front ++ back) ++ new ∷ [])
       ≡ set (rows nodes rules number (front ++ back)) (4 * length front + column) count ++ last
   unfolding rows
@@ -78,13 +80,15 @@ module _ (parent : Node) (letter : ℕ) where
     abbrev nodes : List Node
     nodes = front ++ parent ∷ back
 
-    apart-kept : (one : Node) → sameNode one parent ≡ false → isChild parent one ≡ false → (number : ℕ) (later : List Node) → Kept nodes rules new-node one number later
+    apart-kept : (one : Node) → sameNode one parent ≡ false → isChild parent one ≡ false
+        → (number : ℕ) (later : List Node) → Kept nodes rules new-node one number later
     apart-kept one a e number later = (
       number-kept (isChild one) 0 nodes new-node (only-parent parent letter one ∙ a),
       number-kept (isSibling (one .group) (one .tail)) (suc number) later new-node (not-sibling parent letter one e),
     )
 
-    front-kept : (list more : List Node) (number : ℕ) → Every (λ one. sameNode one parent ≡ false) list → Every (λ one. isChild parent one ≡ false) list
+    front-kept : (list more : List Node) (number : ℕ) → Every (λ one. sameNode one parent ≡ false) list
+        → Every (λ one. isChild parent one ≡ false) list
         → KeptFront nodes rules new-node number list more
     front-kept [] more number a e = tt
     front-kept (one ∷ list) more number a e =
@@ -96,8 +100,10 @@ module _ (parent : Node) (letter : ℕ) where
     hang-first =
         let parts = every-append (λ one. isChild parent one ≡ false) front (parent ∷ back) childless in
         let children = number-last (isChild parent) 0 nodes new-node childless (new-child parent letter) in
-        let siblings = number-kept (isSibling (parent .group) (parent .tail)) (suc (0 + length front)) back new-node (not-sibling parent letter parent (parts .1 .0)) in
-        let after = rows-kept nodes rules new-node (suc (0 + length front)) back (front-kept back [] (suc (0 + length front)) back-apart (parts .1 .1)) in
+        let siblings = number-kept (isSibling (parent .group) (parent .tail)) (suc (0 + length front)) back new-node
+        (not-sibling parent letter parent (parts .1 .0)) in
+        let after = rows-kept nodes rules new-node (suc (0 + length front)) back (front-kept back [] (suc
+        (0 + length front)) back-apart (parts .1 .1)) in
         rows-changed nodes rules new-node 1 (length nodes) (last-row nodes rules new-node (length nodes)) front (parent ∷ back) 0
         (front-kept front (parent ∷ back) 0 front-apart (parts .0))
         (rw (children, siblings, after, zero-add (length nodes)))
@@ -145,7 +151,8 @@ module _ (parent : Node) (letter : ℕ) where
       after-kept list (suc number) (e .1),
     )
 
-    no-sibling : (list : List Node) → Every (λ one. isChild parent one ≡ false) list → Every (λ one. isSibling (last .group) (last .tail) one ≡ false) list
+    no-sibling : (list : List Node) → Every (λ one. isChild parent one ≡ false) list
+        → Every (λ one. isSibling (last .group) (last .tail) one ≡ false) list
     no-sibling [] e = tt
     no-sibling (one ∷ list) e = (child-siblings parent (last .group) (last .tail) hangs one ∙ e .0, no-sibling list (e .1))
 

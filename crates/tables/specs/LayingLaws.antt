@@ -53,7 +53,8 @@ module _ (root : ℕ) (others rules before : List Node) (parent : Node) (later :
       let long = ap length split in (
         rw q
             (subst (λ (list : List Node). Hangs list (4 * length before + 1)) split
-            (hang-first parent letter rules before later childless (front-apart before parent later distinct) (back-apart before parent later distinct))),
+            (hang-first parent letter rules before later childless (front-apart before parent later distinct)
+            (back-apart before parent later distinct))),
         omega (arith, length-append before (parent ∷ later)),
       )
   hang-cases place (last-child front last back s h e q) =
@@ -104,23 +105,35 @@ module _ (root : ℕ) (others rules : List Node) (parent : Node) (letter : ℕ) 
 
   -- the child is added
   pub grow-added : present child-node old-nodes ≡ false → 4 * now .count + 4 ≤ length (now .table)
-      → grow letter now ≡ record { table = hung (now .count) (endOf (take (4 * now .count) (now .table)) (now .at)) letter (now .table); count = suc (now .count); at = now .count }
+      → grow letter now ≡ record {
+        table = hung (now .count) (endOf (take (4 * now .count) (now .table))
+            (now .at)) letter (now .table);
+        count = suc (now .count);
+        at = now .count;
+      }
   unfolding grow
   grow-added e room = rw (missing, e, le-leb (4 * now .count + 4) (length (now .table)) room)
 
   hangs : (link : ℕ) → link ≡ endOf (take (4 * now .count) (now .table)) (now .at)
       → (rows (old-nodes ++ child-node ∷ []) rules 0 (old-nodes ++ child-node ∷ [])
-      ≡ set (rows old-nodes rules 0 old-nodes) link (length old-nodes) ++ rows (old-nodes ++ child-node ∷ []) rules (length old-nodes) (child-node ∷ []))
+      ≡ set (rows old-nodes rules 0 old-nodes) link (length old-nodes) ++ rows (old-nodes ++ child-node ∷ []) rules
+      (length old-nodes) (child-node ∷ []))
       × (link < 4 * length old-nodes)
   hangs link e =
       let here = stands parent 0 old-nodes (standing .there) in
-      let place : link ≡ endOf (rows old-nodes rules 0 old-nodes) (length (here .before)) = e ∙ rw (standing .laid, standing .reached, here .number, zero-add) in
+      let place : link ≡ endOf (rows old-nodes rules 0 old-nodes) (length (here .before)) = e
+      ∙ rw (standing .laid, standing .reached, here .number, zero-add) in
       hang-cases root others rules (here .before) parent (here .later) letter (here .split) (standing .sound) link
       (rw place (parent-ends root others rules (here .before) parent (here .later) (here .split)))
 
   standing-hung : (link : ℕ) → link ≡ endOf (take (4 * now .count) (now .table)) (now .at)
       → present child-node old-nodes ≡ false → 4 * now .count + 4 ≤ length (now .table)
-      → Standing root (others ++ child-node ∷ []) rules child-node (record { table = hung (now .count) link letter (now .table); count = suc (now .count); at = now .count })
+      → Standing root (others ++ child-node ∷ []) rules child-node (record {
+        table = hung (now .count) link letter
+            (now .table);
+        count = suc (now .count);
+        at = now .count;
+      })
   standing-hung link found e room =
       let changed = hangs link found in
       let row = new-row old-nodes rules parent letter (standing .sound) (standing .there) e in
@@ -132,8 +145,10 @@ module _ (root : ℕ) (others rules : List Node) (parent : Node) (letter : ℕ) 
         counted = omega (arith, length-append others (child-node ∷ []), counted);
         fits = omega (arith, hung-length (now .count) link letter (now .table));
         sound = sound-node old-nodes rules parent letter (standing .sound) (standing .there) e;
-        there = present-last child-node child-node old-nodes ∙ or-right (present child-node old-nodes) (sameNode child-node child-node) (same-node-refl child-node);
-        reached = counted ∙ sym (number-last (sameNode child-node) 0 old-nodes child-node absent (same-node-refl child-node) ∙ zero-add (length old-nodes));
+        there = present-last child-node child-node old-nodes
+            ∙ or-right (present child-node old-nodes) (sameNode child-node child-node) (same-node-refl child-node);
+        reached = counted ∙ sym (number-last (sameNode child-node) 0 old-nodes child-node absent
+            (same-node-refl child-node) ∙ zero-add (length old-nodes));
       }
 
   pub standing-added : present child-node old-nodes ≡ false → 4 * now .count + 4 ≤ length (now .table)

@@ -45,7 +45,8 @@ module _ (nodes rules : List Node) (end : Node) where
   -- and else it holds the new one
   rows-new : (front back : List Node) (number : ℕ) → Every (λ one. sameNode one end ≡ false) front → Every (λ one. sameNode one end ≡ false) back
       → numberOf (sameNode end) 1 rules ≡ 0
-      → rows nodes more-rules number (front ++ end ∷ back) ≡ set (rows nodes rules number (front ++ end ∷ back)) (4 * length front + 3) (suc (length rules))
+      → rows nodes more-rules number (front ++ end ∷ back) ≡ set (rows nodes rules number (front ++ end ∷ back))
+      (4 * length front + 3) (suc (length rules))
   unfolding rows
   rows-new [] back number f b h =
       let one-more = number-last (sameNode end) 1 rules end (every-false (sameNode end) 1 rules (lit< tt) h) (same-node-refl end) in
@@ -85,7 +86,8 @@ module _ (root : ℕ) (others rules : List Node) (end : Node) (now : Laying) (st
       let apart-before = front-apart (here .before) end (here .later) distinct in
       let apart-after = back-apart (here .before) end (here .later) distinct in
       rw at-end
-      (subst (λ (list : List Node). rows nodes (rules ++ end ∷ []) 0 list ≡ set (rows nodes rules 0 list) (4 * length (here .before) + 3) rule) (here .split)
+      (subst (λ (list : List Node). rows nodes (rules ++ end ∷ []) 0 list
+      ≡ set (rows nodes rules 0 list) (4 * length (here .before) + 3) rule) (here .split)
       (rows-new nodes rules end (here .before) (here .later) 0 apart-before apart-after e))
 
   noted-table : take (4 * now .count) (note rule now .table) ≡ rows nodes (rules ++ end ∷ []) 0 nodes

@@ -48,7 +48,8 @@ module _ (root : ℕ) (others ends : List Node) (group number : ℕ) (rules : Li
   rule-found : (tail : List ℕ) → leads rules tail ≡ true → firstRule table (found tail) ≡ firstWith number rules tail
   rule-found tail e =
       let there = stands (node group tail) 0 (node root [] ∷ others) (tails-present tail ∙ e) in
-      rw (there .number, zero-add) (first-rule-at (node root [] ∷ others) ends (there .before) (node group tail) (there .later) (there .split) ∙ ends-first tail)
+      rw (there .number, zero-add) (first-rule-at (node root [] ∷ others) ends (there .before) (node group tail)
+      (there .later) (there .split) ∙ ends-first tail)
 
   onward-found : (letter : ℕ) (parent : List ℕ)
       → onward table letter (cond (leads rules parent) (some (found parent)) none)

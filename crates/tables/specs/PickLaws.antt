@@ -44,9 +44,11 @@ pick-first own good found k (rule ∷ rules) =
 pub walked-picks : (table : List ℕ) (root number : ℕ) (word : List ℕ) (rules : List Rule) (found : ℕ) → found ≡ deepest table root (inward word)
     → walked table root number word rules
     ≡ cond (eqb found 0) none
-    (pick (λ rule. eqb found (held table (reached table root (rule .ending)))) (λ rule. holds (rule .condition) (before word (rule .ending))) found number rules)
+    (pick (λ rule. eqb found (held table (reached table root (rule .ending)))) (λ rule. holds (rule .condition)
+    (before word (rule .ending))) found number rules)
 unfolding walked
 walked-picks table root number word rules found e =
     rw (← e)
     (ap (cond (eqb found 0) none)
-    (pick-first (λ rule. eqb found (held table (reached table root (rule .ending)))) (λ rule. holds (rule .condition) (before word (rule .ending))) found number rules))
+    (pick-first (λ rule. eqb found (held table (reached table root (rule .ending)))) (λ rule. holds (rule .condition)
+    (before word (rule .ending))) found number rules))

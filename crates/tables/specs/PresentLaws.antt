@@ -35,7 +35,13 @@ stands one k (other ∷ more) e =
     (λ p. record { before = []; later = more; split = ap (λ (n : Node). n ∷ more) (same-node-eq one other p); number = rw (p, add-zero) })
     (λ p.
     let rest = stands one (suc k) more (rw p at e) in
-    record { before = other ∷ rest .before; later = rest .later; split = ap (λ (list : List Node). other ∷ list) (rest .split); number = rw p (rest .number ∙ omega arith) })
+    record {
+      before = other ∷ rest .before;
+      later = rest .later;
+      split = ap (λ (list : List Node). other ∷ list)
+          (rest .split);
+      number = rw p (rest .number ∙ omega arith);
+    })
 
 pub present-append : (one : Node) (left right : List Node) → present one (left ++ right) ≡ (present one left || present one right)
 unfolding present

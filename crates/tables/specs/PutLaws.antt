@@ -55,10 +55,18 @@ hung-front count link letter table room within = go (four (drop (4 * count) tabl
         let linked = set (take (4 * count) table) link count in
         let row = letter ∷ 0 ∷ 0 ∷ 0 ∷ [] in
         let whole = take-append-drop (4 * count) table in
-        let stored = hung-parts count link letter (take (4 * count) table) (behind .first) (behind .second) (behind .third) (behind .fourth) (behind .rest) long within in
+        let stored = hung-parts count link letter (take (4 * count) table) (behind .first) (behind .second)
+        (behind .third) (behind .fourth) (behind .rest) long within in
         let same-numbers = rw (← behind .parts, whole) at stored in
-        let length-now : length (linked ++ row) ≡ 4 * suc count = omega (arith, length-append linked row, length-set (take (4 * count) table) link count, long) in
-        rw same-numbers (ap (take (4 * suc count)) (sym (append-assoc linked row (behind .rest))) ∙ take-at (linked ++ row) (behind .rest) (4 * suc count) length-now)
+        let length-now : length (linked ++ row) ≡ 4 * suc count = omega (
+          arith,
+          length-append linked row,
+          length-set
+              (take (4 * count) table) link count,
+          long,
+        ) in
+        rw same-numbers (ap (take (4 * suc count)) (sym (append-assoc linked row (behind .rest)))
+        ∙ take-at (linked ++ row) (behind .rest) (4 * suc count) length-now)
 
 pub hung-length : (count link letter : ℕ) (table : List ℕ) → length (hung count link letter table) ≡ length table
 unfolding hung

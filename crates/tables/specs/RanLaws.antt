@@ -36,7 +36,8 @@ module _ (reading : List ℕ → Reading) (word : List ℕ) where
     module _ (other : ℕ) (is : other ≡ firstOther word) (all : length word ≤ other) where
       pub ran-longer : (after : List ℕ) → reading word ≡ outgrown → after ≡ word → RanAs (wordOutcome reading word) Longer after
       unfolding wordOutcome readingOutcome
-      ran-longer after e same-word = rw (right-length, ← is, le-ltb other (length word) all, e, same-word) (record { number-is = refl; value-is = refl; place-is = refl })
+      ran-longer after e same-word = rw (right-length, ← is, le-ltb other (length word) all, e, same-word)
+          (record { number-is = refl; value-is = refl; place-is = refl })
 
       pub ran-done : (stem after : List ℕ) (size : ℕ) → reading word ≡ done stem → size ≡ length stem → after ≡ placed word stem
           → RanAs (wordOutcome reading word) (Done size) after
@@ -51,7 +52,8 @@ pub record Stem (reading : Reading) (size : ℕ) (after : List ℕ) : Type 0 whe
   pub letters : take size after ≡ stem
   pub within : size ≤ length after
 
-pub left-of : (reading : Reading) (walked : Walked) (size : ℕ) (after : List ℕ) → WalkedAs reading walked after → walked ≡ Left size → Stem reading size after
+pub left-of : (reading : Reading) (walked : Walked) (size : ℕ) (after : List ℕ) → WalkedAs reading walked after
+    → walked ≡ Left size → Stem reading size after
 left-of (done stem) (Left other) size after is e =
     let same-size : other ≡ size = cc in
     record { stem = stem; is-done = refl; letters = rw same-size at (is .0); within = rw same-size at (is .1) }
@@ -75,7 +77,8 @@ placed-letters word stem after filled size letters within long there =
     (there ∙ rw (letters, long, size-is), size-is)
 
 -- the word as it came
-pub word-back : (word zeros saved after back : List ℕ) (size : ℕ) → size ≡ length word → length word ≤ length zeros → saved ≡ paste zeros 0 word (length word)
+pub word-back : (word zeros saved after back : List ℕ) (size : ℕ) → size ≡ length word → length word ≤ length zeros
+    → saved ≡ paste zeros 0 word (length word)
     → length after ≡ length word → back ≡ paste after 0 (take size saved) (length (take size saved)) → back ≡ word
 word-back word zeros saved after back size s long kept same-long there =
     let whole : take size saved ≡ word = rw (s, kept, take-length word) (take-append-seam word (drop (0 + length word) zeros)) in

@@ -43,7 +43,8 @@ module _ (sheet : List ℕ) (at c a o s1 s2 : ℕ) (e : recordIn (drop at sheet)
   here = rule-here rest c a o s1 s2 e
 
   numbers : recordIn rest
-      ≡ RuleRecord (condition (body rest)) (actionNumber (body rest)) (opensNumber (body rest)) (length (ending (body rest))) (length (replacement (body rest)))
+      ≡ RuleRecord (condition (body rest)) (actionNumber (body rest)) (opensNumber (body rest)) (length (ending
+      (body rest))) (length (replacement (body rest)))
   unfolding recordIn ruleRecord
   numbers = rw (here .whole, at-rule rest _ _ _ _ (here .is-rule), here .sound)
 
@@ -56,7 +57,13 @@ module _ (sheet : List ℕ) (at c a o s1 s2 : ℕ) (e : recordIn (drop at sheet)
       let is = sound (body rest) (here .sound) in
       let n = endingLength (body rest) in
       let first : n ≡ s1 = omega (arith, length-ending (body rest) is, here .ending-is) in
-      let second : bodyLength rest - (4 + n) ≡ s2 = omega (arith, length-body rest (here .whole), length-replacement (body rest), here .replacement-is) in
+      let second : bodyLength rest - (4 + n) ≡ s2 = omega (
+        arith,
+        length-body rest (here .whole),
+        length-replacement
+            (body rest),
+        here .replacement-is,
+      ) in
       from-body ∙ letters-from sheet at n (bodyLength rest) ∙ rw (second, first)
 
   pub rule-facts : RuleFacts sheet at c a o s1 s2 (rule (body rest))
@@ -71,5 +78,18 @@ module _ (sheet : List ℕ) (at c a o s1 s2 : ℕ) (e : recordIn (drop at sheet)
         action-is = rw (same-action, letters-after);
         opens-is = rw same-opens;
         ending-long = sym (here .ending-is);
-        inside = omega (arith, long rest (here .whole), fitting rest (here .whole), length-drop at sheet, length-body rest (here .whole), length-ending (body rest) is, length-replacement (body rest), here .ending-is, here .replacement-is, is .within);
+        inside = omega (
+          arith,
+          long rest (here .whole),
+          fitting rest
+              (here .whole),
+          length-drop at sheet,
+          length-body rest (here .whole),
+          length-ending
+              (body rest) is,
+          length-replacement (body rest),
+          here .ending-is,
+          here .replacement-is,
+          is .within,
+        );
       }

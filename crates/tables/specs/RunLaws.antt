@@ -35,7 +35,8 @@ refused-by (accepted groups) own place e =
     (λ p. let given : Refused place ≡ Short = rw p at e in let z : _≡_ {A = ℕ} 0 1 = cc in absurd (omega arith))
     (λ p. let given : Refused place ≡ Nodes (nodeCount groups) = rw p at e in let z : _≡_ {A = ℕ} 0 1 = cc in absurd (omega arith))
 
-short-by : (found : Sheet) (own : List ℕ) → Short ≡ translationOf found own .answer → (found ≡ accepted (groupsIn found)) × (length own < 4 * nodeCount (groupsIn found))
+short-by : (found : Sheet) (own : List ℕ) → Short ≡ translationOf found own .answer
+    → (found ≡ accepted (groupsIn found)) × (length own < 4 * nodeCount (groupsIn found))
 unfolding translationOf groupsIn
 short-by (refused other) own e = let z : _≡_ {A = ℕ} 0 1 = cc in absurd (omega arith)
 short-by (accepted groups) own e =
@@ -75,7 +76,8 @@ module _ (sheet own table word : List ℕ) where
     pub own-front : (after : List ℕ) → after ≡ translation sheet own .table → take (4 * nodes) after ≡ tableOf (groupsOf sheet)
     own-front after there =
         rw (there ∙ laid, run-accepted .1)
-        (take-at (tableOf (groupsOf sheet)) (drop (4 * nodeCount (groupsOf sheet)) own) (4 * nodeCount (groupsOf sheet)) (table-length (groupsOf sheet)))
+        (take-at (tableOf (groupsOf sheet)) (drop (4 * nodeCount (groupsOf sheet)) own) (4 * nodeCount (groupsOf sheet))
+        (table-length (groupsOf sheet)))
 
     wrong : rightTable (groupsOf sheet) table ≡ false → RanAs (runOutcome sheet table word) Table word
     unfolding runOutcome runOf
@@ -88,7 +90,8 @@ module _ (sheet own table word : List ℕ) where
         (λ z. let all = ap length (take-all (4 * nodeCount (groupsOf sheet)) table (omega (arith, run-accepted .1))) in
         omega (arith, run-accepted .1, table-length (groupsOf sheet), all)))
 
-    module _ (after : List ℕ) (there : after ≡ translation sheet own .table) (test : Bool) (compared : test ≡ same (take (4 * nodes) table) (take (4 * nodes) after)) where
+    module _ (after : List ℕ) (there : after ≡ translation sheet own .table) (test : Bool) (compared : test
+        ≡ same (take (4 * nodes) table) (take (4 * nodes) after)) where
       right-by : rightTable (groupsOf sheet) table ≡ test
       unfolding rightTable
       right-by = sym (compared ∙ rw (own-front after there, run-accepted .1))

@@ -31,7 +31,8 @@ no-rules : (list : List Rule) → length list ≡ 0 → list ≡ []
 no-rules [] none = refl
 no-rules (one ∷ list) none = absurd (omega arith)
 
-from-start : {found : Rest} (sheet : List ℕ) (groups : List Group) → WrittenAs 0 0 sheet found → whole found ≡ accepted groups → found ≡ holding [] groups
+from-start : {found : Rest} (sheet : List ℕ) (groups : List Group) → WrittenAs 0 0 sheet found
+    → whole found ≡ accepted groups → found ≡ holding [] groups
 from-start sheet groups (not-read place) e = let z : _≡_ {A = ℕ} 0 1 = cc in absurd (omega arith)
 from-start sheet groups (is-read list found w) e =
     let none = no-rules list (w .no-rule-first refl) in
@@ -51,7 +52,8 @@ record AfterGroup (one : Gate) (found : Rest) (list : List Rule) (more : List Gr
   none-before : list ≡ []
   group-first : more ≡ record { gate = one; rules = rules-then } ∷ groups-then
 
-after-group : (one : Gate) (found : Rest) (list : List Rule) (more : List Group) → groupThen one found ≡ holding list more → AfterGroup one found list more
+after-group : (one : Gate) (found : Rest) (list : List Rule) (more : List Group)
+    → groupThen one found ≡ holding list more → AfterGroup one found list more
 after-group one (faulty-at place) list more e = let z : _≡_ {A = ℕ} 0 1 = cc in absurd (omega arith)
 after-group one (holding rules groups) list more e =
     record { rules-then = rules; groups-then = groups; rest-then = refl; none-before = cc; group-first = cc }
@@ -61,7 +63,8 @@ record AfterRule (one : Rule) (found : Rest) (list : List Rule) (more : List Gro
   rest-then : found ≡ holding rules-then more
   rule-first : list ≡ one ∷ rules-then
 
-after-rule : (one : Rule) (found : Rest) (list : List Rule) (more : List Group) → ruleThen one found ≡ holding list more → AfterRule one found list more
+after-rule : (one : Rule) (found : Rest) (list : List Rule) (more : List Group) → ruleThen one found ≡ holding list more
+    → AfterRule one found list more
 after-rule one (faulty-at place) list more e = let z : _≡_ {A = ℕ} 0 1 = cc in absurd (omega arith)
 after-rule one (holding rules groups) list more e =
     let same-groups : groups ≡ more = cc in
@@ -129,7 +132,8 @@ module _ (sheet : List ℕ) (at groups rules : ℕ) (list : List Rule) (more : L
   unfolding after
   left groups′ rules′ next is =
       let beyond : after rest ≡ drop next sheet = drop-drop (4 + bodyLength rest) at sheet ∙ ap (λ (k : ℕ). drop k sheet) (sym is) in
-      enough (length rest) (length (after rest)) groups′ rules′ (at + (4 + bodyLength rest)) (after rest) (omega (arith, length-after rest)) (omega arith)
+      enough (length rest) (length (after rest)) groups′ rules′ (at + (4 + bodyLength rest)) (after rest) (omega
+      (arith, length-after rest)) (omega arith)
       ∙ rw (beyond, is)
 
   within : cut rest ≡ false → at + (4 + bodyLength rest) ≤ length sheet
@@ -139,7 +143,8 @@ module _ (sheet : List ℕ) (at groups rules : ℕ) (list : List Rule) (more : L
   group-next number here =
       let placed = sym (group-fault groups rules rest (here .whole) (here .is-group) (here .sound)) ∙ never-faulty in
       let stepped = sym (group-step (length rest) groups rules at rest (here .whole) (here .is-group) (here .sound) placed) ∙ one-record in
-      let found = after-group (gate (body rest)) (readRest (length rest) (suc groups) rules (at + (4 + bodyLength rest)) (after rest)) list more stepped in
+      let found = after-group (gate (body rest)) (readRest (length rest) (suc groups) rules (at + (4 + bodyLength rest))
+      (after rest)) list more stepped in
       let size : bodyLength rest ≡ 2 = sym (length-body rest (here .whole)) ∙ group-length (body rest) (here .sound) in
       let next : at + 6 ≡ at + (4 + bodyLength rest) = omega arith in
       record {
@@ -157,7 +162,16 @@ module _ (sheet : List ℕ) (at groups rules : ℕ) (list : List Rule) (more : L
   rule-size : (s1 s2 : ℕ) → RuleHere rest s1 s2 → bodyLength rest ≡ 4 + (s1 + s2)
   rule-size s1 s2 here =
       let is = sound (body rest) (here .sound) in
-      omega (arith, length-body rest (here .whole), length-ending (body rest) is, length-replacement (body rest), here .ending-is, here .replacement-is, is .within)
+      omega (
+        arith,
+        length-body rest (here .whole),
+        length-ending (body rest) is,
+        length-replacement
+            (body rest),
+        here .ending-is,
+        here .replacement-is,
+        is .within,
+      )
 
   ending-slice : (s1 s2 : ℕ) → RuleHere rest s1 s2 → take s1 (drop (at + 8) sheet) ≡ rule (body rest) .ending
   unfolding endingIn rule
@@ -172,7 +186,8 @@ module _ (sheet : List ℕ) (at groups rules : ℕ) (list : List Rule) (more : L
   rule-next s1 s2 here =
       let placed = sym (rule-fault groups rules rest (here .whole) (here .is-rule) (here .sound)) ∙ never-faulty in
       let stepped = sym (rule-step (length rest) groups rules at rest (here .whole) (here .is-rule) (here .sound) placed) ∙ one-record in
-      let found = after-rule (rule (body rest)) (readRest (length rest) groups (suc rules) (at + (4 + bodyLength rest)) (after rest)) list more stepped in
+      let found = after-rule (rule (body rest)) (readRest (length rest) groups (suc rules) (at + (4 + bodyLength rest))
+      (after rest)) list more stepped in
       let size = rule-size s1 s2 here in
       let next : at + (8 + s1 + s2) ≡ at + (4 + bodyLength rest) = omega arith in
       record {

@@ -47,20 +47,23 @@ absent-apart one (other ∷ list) e =
     (λ p. (same-node-sym other one ∙ p, absent-apart one list (rw p at e)))
 
 -- a node's neighbours in a list where none comes twice are other nodes
-pub front-apart : (front : List Node) (one : Node) (back : List Node) → Distinct (front ++ one ∷ back) → Every (λ other. sameNode other one ≡ false) front
+pub front-apart : (front : List Node) (one : Node) (back : List Node) → Distinct (front ++ one ∷ back)
+    → Every (λ other. sameNode other one ≡ false) front
 unfolding present
 front-apart [] one back d = tt
 front-apart (first ∷ front) one back d = (
   by-test (sameNode first one)
       (λ p.
       let there : present first (front ++ one ∷ back) ≡ true =
-      present-append first front (one ∷ back) ∙ or-right (present first front) (sameNode first one || present first back) (or-left (sameNode first one) (present first back) p) in
+      present-append first front (one ∷ back) ∙ or-right (present first front)
+      (sameNode first one || present first back) (or-left (sameNode first one) (present first back) p) in
       absurd (false≢true (sym (d .0) ∙ there)))
       (λ p. p),
   front-apart front one back (d .1),
 )
 
-pub back-apart : (front : List Node) (one : Node) (back : List Node) → Distinct (front ++ one ∷ back) → Every (λ other. sameNode other one ≡ false) back
+pub back-apart : (front : List Node) (one : Node) (back : List Node) → Distinct (front ++ one ∷ back)
+    → Every (λ other. sameNode other one ≡ false) back
 back-apart [] one back d = absent-apart one back (d .0)
 back-apart (first ∷ front) one back d = back-apart front one back (d .1)
 
@@ -96,7 +99,8 @@ module _ (nodes rules : List Node) (parent : Node) (letter : ℕ) (sound : Sound
 
   absent-before : (one : Node) → present one (nodes ++ new ∷ []) ≡ false → present one nodes ≡ false
   absent-before one e =
-      by-test (present one nodes) (λ p. absurd (false≢true (sym (sym (present-last one new nodes) ∙ e) ∙ or-left (present one nodes) (sameNode one new) p)))
+      by-test (present one nodes) (λ p. absurd (false≢true (sym (sym (present-last one new nodes) ∙ e)
+      ∙ or-left (present one nodes) (sameNode one new) p)))
       (λ p. p)
 
   pub sound-node : Sound (nodes ++ new ∷ []) rules

@@ -76,7 +76,8 @@ module _ (table : List ℕ) (root number : ℕ) (place : List ℕ) (size : ℕ) 
     step-single e =
         let single : one .action ≡ single-letter = facts .action-is ∙ rw (ne-eqb a 0 e) in
         let left : length (take part place) - 1 ≡ part - 1 = omega (arith, part-long) in
-        let letters-left : act (one .action) (take part place) ≡ take (part - 1) place = rw (single, left) (take-take (part - 1) part place (omega arith)) in
+        let letters-left : act (one .action) (take part place)
+        ≡ take (part - 1) place = rw (single, left) (take-take (part - 1) part place (omega arith)) in
         rw (given, letters-left)
         (record {
           fits-is = sym (le-leb (length (take (part - 1) place)) (length place) (omega (arith, length-take-le (part - 1) place (omega arith))));

@@ -18,7 +18,8 @@ member-append tail (one ∷ left) right = rw (member-append tail left right, or-
 -- an ending is one of its tails
 pub member-self : (letter : ℕ) (parent : List ℕ) → member (letter ∷ parent) (tails (letter ∷ parent)) ≡ true
 unfolding member tails
-member-self letter parent = or-left (same (letter ∷ parent) (letter ∷ parent)) (member (letter ∷ parent) (tails parent)) (same-itself (letter ∷ parent))
+member-self letter parent = or-left (same (letter ∷ parent) (letter ∷ parent)) (member (letter ∷ parent) (tails parent))
+    (same-itself (letter ∷ parent))
 
 -- a tail of a tail is a tail
 pub member-parent : (letter next : ℕ) (rest ending : List ℕ) → member (letter ∷ next ∷ rest) (tails ending) ≡ true
@@ -41,7 +42,8 @@ leads-parent (rule ∷ rules) letter (next ∷ rest) e =
     let parted = rw member-append at e in
     rw member-append
     (or-cases (member (letter ∷ next ∷ rest) (tails (rule .ending))) (member (letter ∷ next ∷ rest) (tailsOf rules)) parted
-    (λ p. or-left (member (next ∷ rest) (tails (rule .ending))) (member (next ∷ rest) (tailsOf rules)) (member-parent letter next rest (rule .ending) p))
+    (λ p. or-left (member (next ∷ rest) (tails (rule .ending))) (member (next ∷ rest) (tailsOf rules))
+    (member-parent letter next rest (rule .ending) p))
     (λ p. or-right (member (next ∷ rest) (tails (rule .ending))) (member (next ∷ rest) (tailsOf rules)) (leads-parent rules letter (next ∷ rest) p)))
 
 -- where no path leads, no rule has that ending

@@ -95,12 +95,14 @@ faithful-from first others rules extra root number (group ∷ groups) rest =
 
 -- The whole sheet
 
-pub roots-no-tail : (group letter : ℕ) (parent : List ℕ) (k : ℕ) (groups : List Group) → present (node group (letter ∷ parent)) (roots k groups) ≡ false
+pub roots-no-tail : (group letter : ℕ) (parent : List ℕ) (k : ℕ) (groups : List Group)
+    → present (node group (letter ∷ parent)) (roots k groups) ≡ false
 unfolding roots present
 roots-no-tail group letter parent k [] = refl
 roots-no-tail group letter parent k (one ∷ more) = rw (not-root group letter k parent) (roots-no-tail group letter parent (suc k) more)
 
-whole-sheet : (groups : List Group) (extra : List Node) → nodesOf groups ≡ roots 0 groups ++ extra → Rest (nodesOf groups) (ends 0 groups) extra 0 1 groups
+whole-sheet : (groups : List Group) (extra : List Node) → nodesOf groups ≡ roots 0 groups ++ extra
+    → Rest (nodesOf groups) (ends 0 groups) extra 0 1 groups
 unfolding nodesOf
 whole-sheet groups extra e =
     record {

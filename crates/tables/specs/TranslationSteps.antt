@@ -108,7 +108,8 @@ module _ (all : List Group) (table : List ℕ) (count rules-so-far group : ℕ) 
           counted = c ∙ noted .counted;
           fits = rw (stored, c) (noted .fits);
           sound = noted .sound;
-          roots-there = subst (RootsAt all) (sym (behind .after) ∙ after-entering .nodes) (roots-more all nodes (behind .extra) (midway .roots-there));
+          roots-there = subst (RootsAt all) (sym (behind .after)
+              ∙ after-entering .nodes) (roots-more all nodes (behind .extra) (midway .roots-there));
           rules-counted = omega (arith, r, midway .rules-counted, length-append (midway .rules) (end ∷ []));
           nodes-left = rw (← after-entering .nodes) grown-left;
           rules-left = append-assoc (midway .rules) (end ∷ []) left ∙ midway .rules-left;
@@ -168,7 +169,8 @@ roots-at group number (one ∷ groups) low high =
 
 pub start-rows : (groups : List Group) → rows (roots 0 groups) [] 0 (roots 0 groups) ≡ replicate (4 * length groups) 0
 start-rows groups =
-    roots-numbers (roots 0 groups) 0 0 groups (λ group. number-nowhere (isChild (node group [])) 0 (roots 0 groups) (roots-childless (node group []) 0 groups))
+    roots-numbers (roots 0 groups) 0 0 groups (λ group. number-nowhere (isChild (node group [])) 0 (roots 0 groups)
+    (roots-childless (node group []) 0 groups))
 
 pub midway-start : (group : Group) (groups : List Group) (table : List ℕ) (count : ℕ) → count ≡ length (group ∷ groups)
     → take (4 * count) table ≡ replicate (4 * count) 0 → 4 * count ≤ length table
@@ -195,7 +197,8 @@ midway-start group groups table count c zeros fits =
 
 -- The end: all rules are laid
 
-pub midway-end : (all : List Group) (table : List ℕ) (count rules-so-far : ℕ) (left : List Node) → left ≡ [] → Midway all table count rules-so-far left
+pub midway-end : (all : List Group) (table : List ℕ) (count rules-so-far : ℕ) (left : List Node) → left ≡ []
+    → Midway all table count rules-so-far left
     → length table ≡ 4 * nodeCount all → table ≡ tableOf all
 unfolding grown tableOf
 midway-end all table count rules-so-far left none midway room =

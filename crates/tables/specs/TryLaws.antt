@@ -36,7 +36,8 @@ restAt sheet at groups rules = readRest (length (drop at sheet)) groups rules at
 
 -- the rest of the sheet is not refused
 abbrev pub Readable : List ℕ → ℕ → ℕ → ℕ → Type 0
-Readable sheet at groups rules = restAt sheet at groups rules ≡ holding (rulesOf (restAt sheet at groups rules)) (groupsAfter (restAt sheet at groups rules))
+Readable sheet at groups rules = restAt sheet at groups rules
+    ≡ holding (rulesOf (restAt sheet at groups rules)) (groupsAfter (restAt sheet at groups rules))
 
 -- whether a rule of this number, condition and ending is the one that a walk which found `found` obeys
 unfoldable pub obeys : List ℕ → ℕ → ℕ → List ℕ → ℕ → ℕ → List ℕ → Bool
@@ -46,7 +47,8 @@ obeys table root found word number condition s1 =
 -- the first such rule, of rules that are counted from `number`
 unfoldable pub picked : List ℕ → ℕ → ℕ → List ℕ → ℕ → List Rule → Option Rule
 picked table root found word number rules =
-    pick (λ rule. eqb found (held table (reached table root (rule .ending)))) (λ rule. holds (rule .condition) (before word (rule .ending))) found number rules
+    pick (λ rule. eqb found (held table (reached table root (rule .ending)))) (λ rule. holds (rule .condition)
+    (before word (rule .ending))) found number rules
 
 -- what is handed back of the rule that was picked: the place of its record, or 0, and its numbers
 abbrev pub PickedAs : List ℕ → Option Rule → ℕ → ℕ → ℕ → ℕ → ℕ → Type 0
@@ -64,7 +66,8 @@ pub trying-start : (table : List ℕ) (root found : ℕ) (word sheet : List ℕ)
 trying-start table root found word sheet groups start first is =
     record { list = rulesOf (restAt sheet start groups first); more = groupsAfter (restAt sheet start groups first); holds-here = is; decides = refl }
 
-picked-none : (table : List ℕ) (root found : ℕ) (word : List ℕ) (number : ℕ) (list : List Rule) → list ≡ [] → picked table root found word number list ≡ none
+picked-none : (table : List ℕ) (root found : ℕ) (word : List ℕ) (number : ℕ) (list : List Rule) → list ≡ []
+    → picked table root found word number list ≡ none
 unfolding picked pick
 picked-none table root found word number list e = rw e
 
@@ -88,7 +91,8 @@ module _ (table : List ℕ) (root found : ℕ) (word sheet : List ℕ) (groups s
   none-picked e = sym (state .decides) ∙ picked-none table root found word (rules + 1) (state .list) e
 
   pub trying-group : (number : ℕ) → GroupHere (drop place sheet) number → answer ≡ none
-  trying-group number here = none-picked (group-next sheet place groups rules (state .list) (state .more) (state .holds-here) number here .none-before)
+  trying-group number here = none-picked (group-next sheet place groups rules (state .list) (state .more)
+      (state .holds-here) number here .none-before)
 
   pub trying-end : EndHere (drop place sheet) → answer ≡ none
   trying-end here = none-picked (end-next sheet place groups rules (state .list) (state .more) (state .holds-here) here .0)
@@ -109,7 +113,8 @@ module _ (table : List ℕ) (root found : ℕ) (word sheet : List ℕ) (groups s
         let same-condition : next .one .condition ≡ c = ap (λ (one : Rule). one .condition) (next .is-here) ∙ facts .condition-is in
         rw (same-condition, ← next .ending-here) t
 
-    pub trying-here : obeys table root found word (rules + 1) c (take s1 (drop (place + 8) sheet)) ≡ true → answer ≡ some (rule (body (drop place sheet)))
+    pub trying-here : obeys table root found word (rules + 1) c (take s1 (drop (place + 8) sheet)) ≡ true
+        → answer ≡ some (rule (body (drop place sheet)))
     trying-here t =
         sym (state .decides)
         ∙ picked-here table root found word (rules + 1) (state .list) (next .one) (next .rules-then) (next .rule-first) (tested true t)
@@ -133,7 +138,8 @@ module _ (table : List ℕ) (root found : ℕ) (word : List ℕ) (number conditi
   unfolding obeys
   obeys-early h = rw (lt-leb found number h)
 
-  pub obeys-other : (there : ℕ) → there ≡ held table (reached table root s1) → (found ≡ there → ⊥) → obeys table root found word number condition s1 ≡ false
+  pub obeys-other : (there : ℕ) → there ≡ held table (reached table root s1) → (found ≡ there → ⊥)
+      → obeys table root found word number condition s1 ≡ false
   unfolding obeys
   obeys-other there e h = rw (← e, ne-eqb found there h, and-false)
 

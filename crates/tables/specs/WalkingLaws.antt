@@ -40,16 +40,19 @@ readable sheet at groups rules list more e = (rw e, rw e)
 runs-by : (number : ℕ) (opened : Bool) → runs (cond (eqb number 0) always if-opened) opened ≡ (eqb number 0 || opened)
 runs-by number opened = by-test (eqb number 0) (λ p. rw p) (λ p. rw p)
 
-module _ (table : List ℕ) (place root number : ℕ) (list : List Group) (group : Group) (groups : List Group) (opened : Bool) (word : List ℕ) (split : list ≡ group ∷ groups) where
+module _ (table : List ℕ) (place root number : ℕ) (list : List Group) (group : Group) (groups : List Group)
+    (opened : Bool) (word : List ℕ) (split : list ≡ group ∷ groups) where
   abbrev given : Result
   given = walkGroup table root number word (group .rules)
 
   walk-run : runs (group .gate) opened ≡ true → leb (length (given .word)) place ≡ true
-      → walk table place root number list opened word ≡ walk table place (suc root) (number + length (group .rules)) groups (given .opened) (given .word)
+      → walk table place root number list opened word ≡ walk table place (suc root) (number + length
+      (group .rules)) groups (given .opened) (given .word)
   unfolding walk
   walk-run e f = rw (split, e, f)
 
-  walk-outgrown : runs (group .gate) opened ≡ true → leb (length (given .word)) place ≡ false → walk table place root number list opened word ≡ outgrown
+  walk-outgrown : runs (group .gate) opened ≡ true → leb (length (given .word)) place ≡ false
+      → walk table place root number list opened word ≡ outgrown
   unfolding walk
   walk-outgrown e f = rw (split, e, f)
 
@@ -58,7 +61,8 @@ module _ (table : List ℕ) (place root number : ℕ) (list : List Group) (group
   unfolding walk
   walk-skip e = rw (split, e)
 
-module _ (table sheet first : List ℕ) (at next rules : ℕ) (opened : Bool) (word : List ℕ) (state : Walking table sheet first at next rules opened word) where
+module _ (table sheet first : List ℕ) (at next rules : ℕ) (opened : Bool) (word : List ℕ)
+    (state : Walking table sheet first at next rules opened word) where
   module _ (number : ℕ) (here : GroupHere (drop at sheet) number) where
     abbrev found : GroupNext sheet at next rules (state .list) (state .more)
     found = group-next sheet at next rules (state .list) (state .more) (state .holds) number here
@@ -86,34 +90,42 @@ module _ (table sheet first : List ℕ) (at next rules : ℕ) (opened : Bool) (w
     own = record { gate = found .gate-then; rules = found .rules-then }
 
     go-on : (word′ : List ℕ) (opened′ : Bool)
-        → walk table (length first) next (rules + 1) (state .more) opened word ≡ walk table (length first) (suc next) (rules + 1 + length (found .rules-then)) (found .groups-then) opened′ word′
+        → walk table (length first) next (rules + 1) (state .more) opened word
+        ≡ walk table (length first) (suc next) (rules + 1 + length (found .rules-then))
+        (found .groups-then) opened′ word′
         → Walking table sheet first (at + 6) (next + 1) rules opened′ word′
     go-on word′ opened′ e =
         record {
           list = found .rules-then;
           more = found .groups-then;
           holds = found .holds;
-          decides = ap (λ (n : ℕ). walk table (length first) n (rules + 1 + length (found .rules-then)) (found .groups-then) opened′ word′) (add-one next) ∙ sym e ∙ from-here;
+          decides = ap (λ (n : ℕ). walk table (length first) n (rules + 1 + length (found .rules-then))
+              (found .groups-then) opened′ word′) (add-one next) ∙ sym e ∙ from-here;
         }
 
     pub walking-skip : (eqb number 0 || opened) ≡ false → Walking table sheet first (at + 6) (next + 1) rules false word
     walking-skip t =
-        go-on word false (walk-skip table (length first) next (rules + 1) (state .more) own (found .groups-then) opened word (found .group-first) (gated false t))
+        go-on word false (walk-skip table (length first) next (rules + 1) (state .more) own
+        (found .groups-then) opened word (found .group-first) (gated false t))
 
     module _ (after : List ℕ) (size : ℕ) (opened′ fits : Bool) (t : (eqb number 0 || opened) ≡ true)
-        (stepped : Stepped (walkGroup table next (rules + 1) word (rulesOf (restAt sheet (at + 6) (next + 1) rules))) (length first) after size opened′ fits) where
+        (stepped : Stepped (walkGroup table next (rules + 1) word (rulesOf (restAt sheet (at + 6) (next + 1) rules)))
+        (length first) after size opened′ fits) where
       step-own : Stepped (walkGroup table next (rules + 1) word (found .rules-then)) (length first) after size opened′ fits
-      step-own = subst (λ (list : List Rule). Stepped (walkGroup table next (rules + 1) word list) (length first) after size opened′ fits) rules-here stepped
+      step-own = subst (λ (list : List Rule). Stepped (walkGroup table next (rules + 1) word list)
+          (length first) after size opened′ fits) rules-here stepped
 
       pub walking-step : fits ≡ true → Walking table sheet first (at + 6) (next + 1) rules opened′ (take size after)
       walking-step f =
           let left = step-own .letters f in
-          let run = walk-run table (length first) next (rules + 1) (state .more) own (found .groups-then) opened word (found .group-first) (gated true t) (sym (step-own .fits-is) ∙ f) in
+          let run = walk-run table (length first) next (rules + 1) (state .more) own (found .groups-then) opened word
+          (found .group-first) (gated true t) (sym (step-own .fits-is) ∙ f) in
           go-on (take size after) opened′ (rw (left .0, left .2) run)
 
       pub walking-outgrown : fits ≡ false → outgrown ≡ walkWord table (groupsOf sheet) first
       walking-outgrown f =
-          sym (walk-outgrown table (length first) next (rules + 1) (state .more) own (found .groups-then) opened word (found .group-first) (gated true t) (sym (step-own .fits-is) ∙ f))
+          sym (walk-outgrown table (length first) next (rules + 1) (state .more) own (found .groups-then) opened word
+          (found .group-first) (gated true t) (sym (step-own .fits-is) ∙ f))
           ∙ from-here
 
   pub walking-rule : (s1 s2 : ℕ) → RuleHere (drop at sheet) s1 s2

@@ -61,5 +61,7 @@ abbrev gives : Sample → Ran
 gives s = record { text = letters (s .after); stemmed = s .stemmed; left = s .left }
 
 pub samples-hold : map (λ s. runText stem (letters (s .given))) samples ≡ map gives samples
-unfolding among vowelAfter classAfter inward classOf letterAt classAt rises measure someVowel *v* *d *o lastIs conditions holds same endsWith before which first fitting longest chosen obeyed act resultOf readGroup read shipped readWord stem placed isLetter withLetter pieces lowered answered ofWord ofPiece ofPieces runText samples
+unfolding among vowelAfter classAfter inward classOf letterAt classAt rises measure someVowel *v* *d *o lastIs
+    conditions holds same endsWith before which first fitting longest chosen obeyed act resultOf readGroup read shipped
+    readWord stem placed isLetter withLetter pieces lowered answered ofWord ofPiece ofPieces runText samples
 samples-hold = refl

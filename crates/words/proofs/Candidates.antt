@@ -30,7 +30,8 @@ unfolding numbers
 numbers-below test n from [] h = tt
 numbers-below test n from (one ∷ group) h = go (numbers-below test n (suc from) group (omega arith)) (test one)
   where
-    go : AllBelow n (numbers test (suc from) group) → (passes : Bool) → AllBelow n (cond passes (from ∷ numbers test (suc from) group) (numbers test (suc from) group))
+    go : AllBelow n (numbers test (suc from) group) → (passes : Bool)
+        → AllBelow n (cond passes (from ∷ numbers test (suc from) group) (numbers test (suc from) group))
     go rest true = (omega arith, rest)
     go rest false = rest
 
@@ -92,9 +93,23 @@ byGroup-at earlier [] g c e h k = absurd (not-suc-le-zero h)
 byGroup-at earlier (group ∷ groups) zero c e h k =
     let size = byLetter-length 97 26 (length earlier) (group .rules) in
     let here : 26 * 0 + c ≡ c = omega arith in
-    let fits : length earlier + length (group .rules) ≤ length rules = rw (← e) (omega (arith, length-append earlier (group .rules ++ rulesOf groups), length-append (group .rules) (rulesOf groups))) in
-    rw (here, List·getD-append (byLetter 97 26 (length earlier) (group .rules)) (byGroup (length earlier + length (group .rules)) groups) [] c (omega arith), byLetter-at 97 26 (length earlier) c (group .rules) k)
-    (record { names = numbers-name (may (97 + c)) earlier (group .rules) (rulesOf groups) e; known = numbers-below (may (97 + c)) (length rules) (length earlier) (group .rules) fits })
+    let fits : length earlier + length (group .rules) ≤ length rules = rw (← e) (omega (
+      arith,
+      length-append earlier
+          (group .rules ++ rulesOf groups),
+      length-append (group .rules) (rulesOf groups),
+    )) in
+    rw (
+      here,
+      List·getD-append (byLetter 97 26 (length earlier) (group .rules)) (byGroup (length earlier + length
+          (group .rules)) groups) [] c (omega arith),
+      byLetter-at 97 26 (length earlier) c (group .rules) k,
+    )
+    (record {
+      names = numbers-name (may (97 + c)) earlier (group .rules) (rulesOf groups) e;
+      known = numbers-below (may
+          (97 + c)) (length rules) (length earlier) (group .rules) fits;
+    })
 byGroup-at earlier (group ∷ groups) (suc g) c e h k =
     let blocks = byLetter 97 26 (length earlier) (group .rules) in
     let size = byLetter-length 97 26 (length earlier) (group .rules) in
@@ -143,7 +158,8 @@ ends-may word c one column t e = go (one .ending) t (ends-split word (one .endin
     go [] t split = refl
     go (letter ∷ s1) t split =
         let filled : eqb (length (letter ∷ s1)) 0 ≡ false = eqb·suc-zero (length s1) in
-        let last : letterAt 0 word ≡ letterAt 0 (letter ∷ s1) = ap (letterAt 0) (sym split) ∙ last-letter (before word (one .ending)) (letter ∷ s1) (omega arith) in
+        let last : letterAt 0 word ≡ letterAt 0 (letter ∷ s1) = ap (letterAt 0) (sym split)
+        ∙ last-letter (before word (one .ending)) (letter ∷ s1) (omega arith) in
         let here : 97 + c ≡ letterAt 0 word = column .1 (ap small last ∙ (rw filled at t)) in
         rw filled (eq-eqb (letterAt 0 (letter ∷ s1)) (97 + c) (cc))
 

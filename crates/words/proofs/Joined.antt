@@ -61,13 +61,16 @@ pub between : (lists : List (List ℕ)) (k : ℕ) → k < length lists → Betwe
 between lists k h =
     let here : getD (starts 0 lists) k 0 ≡ length (joined (take k lists)) = starts-at 0 k lists (omega arith) ∙ omega arith in
     let next : getD (starts 0 lists) (k + 1) 0 ≡ length (joined (take (k + 1) lists)) = starts-at 0 (k + 1) lists (omega arith) ∙ omega arith in
-    let more : length (joined (take (k + 1) lists)) ≡ length (joined (take k lists)) + length (getD lists k []) = rw add-one (joined-take k lists h) in
+    let more : length (joined (take (k + 1) lists)) ≡ length (joined (take k lists)) + length
+    (getD lists k []) = rw add-one (joined-take k lists h) in
     let whole = joined-split k lists h in
-    let sum : length (joined lists) ≡ length (joined (take k lists)) + (length (getD lists k []) + length (joined (drop (suc k) lists))) = ap length whole ∙ simp length-append in
+    let sum : length (joined lists) ≡ length (joined (take k lists)) + (length (getD lists k []) + length (joined (drop
+    (suc k) lists))) = ap length whole ∙ simp length-append in
     record {
       size = omega arith;
       within = omega arith;
       part =
           let n : getD (starts 0 lists) (k + 1) 0 - getD (starts 0 lists) k 0 ≡ length (getD lists k []) = omega arith in
-          rw (n, here, whole, drop-at (joined (take k lists)) (getD lists k [] ++ joined (drop (suc k) lists)) _ refl) (take-at (getD lists k []) _ _ refl);
+          rw (n, here, whole, drop-at (joined (take k lists)) (getD lists k [] ++ joined (drop (suc k) lists)) _ refl)
+          (take-at (getD lists k []) _ _ refl);
     }

@@ -69,7 +69,8 @@ module _ (given : List ℕ) (k : ℕ) (known : k < 9) (opened : Bool) (word : Li
   unfolding groupRules
   result-fits run =
       fits (length given) shipped noGroup k in-list opened word (sym (gate-at k opened known) ∙ run)
-      (λ outgrew. let clash : done (stem-done given .0) ≡ outgrown = sym (stem-done given .1) ∙ sym left ∙ outgrew in let z : _≡_ {A = ℕ} 0 1 = cc in omega arith)
+      (λ outgrew. let clash : done (stem-done given .0) ≡ outgrown = sym (stem-done given .1) ∙ sym left
+      ∙ outgrew in let z : _≡_ {A = ℕ} 0 1 = cc in omega arith)
 
   pub read-on :
       (eqb (getD gateDigits k 0) 48 || opened) ≡ true

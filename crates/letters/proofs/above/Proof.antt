@@ -40,7 +40,9 @@ returns c =
     let ran = c .before .before .step in
     let passing = step-gives (c .before .before .before .before .before .before .before .before .before .args .part .now) _ (at .s) (ran .result) (at .i) (c .before .before .before .before .loop-test .taken) (at .inv .0) (ran .ensures .0) (ran .ensures .1) in
     let more = measure-passed (c .before .before .before .before .before .before .before .before .before .args .part .now) _ (ran .result) (at .i + 1) passing in
-    sym (lt-ltb (c .before .before .before .before .before .before .before .before .before .args .k) (measureOf (c .before .before .before .before .before .before .before .before .before .args .part .now)) (omega (arith, c .if1 .taken, more)))
+    sym (lt-ltb (c .before .before .before .before .before .before .before .before .before .args .k) (measureOf
+    (c .before .before .before .before .before .before .before .before .before .args .part .now)) (omega
+    (arith, c .if1 .taken, more)))
 
 add-i : tie.Need-add-i Inv-loop μ-loop
 add-i c = omega arith
@@ -59,7 +61,8 @@ returns-2 : tie.Need-returns-2 Inv-loop μ-loop
 returns-2 c =
     let at = c .before .loop in
     let all = all-passed (c .before .before .before .before .before .args .part .now) _ (at .s) (at .i) (c .loop-test .left) (at .inv .0) in
-    sym (le-ltb (c .before .before .before .before .before .args .k) (measureOf (c .before .before .before .before .before .args .part .now)) (omega (arith, all .measure, at .inv .1)))
+    sym (le-ltb (c .before .before .before .before .before .args .k) (measureOf
+    (c .before .before .before .before .before .args .part .now)) (omega (arith, all .measure, at .inv .1)))
 
 pub above-spec : {M : Type 1} → statement M
 above-spec =

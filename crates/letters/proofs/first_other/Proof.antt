@@ -38,7 +38,8 @@ returns-2 : tie.Need-returns-2 Inv-loop μ-loop
 returns-2 c =
     let at = c .before .before .before .before .before .loop in
     let word = c .before .before .before .before .before .before .args .word .now in
-    let here = other-here word (at .i) (omega arith) (rw (lt-leb (getD word (at .i) 0) 122 (c .if2 .taken)) (and-false (leb 97 (getD word (at .i) 0)))) in
+    let here = other-here word (at .i) (omega arith) (rw (lt-leb (getD word (at .i) 0) 122 (c .if2 .taken)) (and-false
+    (leb 97 (getD word (at .i) 0)))) in
     omega arith
 
 add-i : tie.Need-add-i Inv-loop μ-loop
@@ -51,7 +52,11 @@ loop-again : tie.Need-loop-again Inv-loop μ-loop
 loop-again c =
     let at = c .before .before .before .before .before .loop in
     let word = c .before .before .before .before .before .before .args .word .now in
-    let letter : small (getD word (at .i) 0) ≡ true = rw (le-leb 97 (getD word (at .i) 0) (c .before .before .if1 .left), le-leb (getD word (at .i) 0) 122 (c .if2 .left)) in
+    let letter : small (getD word (at .i) 0) ≡ true = rw (
+      le-leb 97 (getD word (at .i) 0)
+          (c .before .before .if1 .left),
+      le-leb (getD word (at .i) 0) 122 (c .if2 .left),
+    ) in
     let later = other-later word (at .i) (omega arith) letter in
     (omega arith, rw add-one (omega arith))
 

@@ -39,8 +39,11 @@ returns : tie.Need-returns Inv-loop μ-loop
 returns c =
     let at = c .before .before .before .before .loop in
     let ran = c .before .step in
-    let passing = step-gives (c .before .before .before .before .before .before .before .before .args .part .now) _ (at .s) (ran .result) (at .i) (c .before .before .before .loop-test .taken) (at .inv .0) (ran .ensures .0) (ran .ensures .1) in
-    sym (vowel-passed (c .before .before .before .before .before .before .before .before .args .part .now) _ (ran .result) (at .i + 1) passing (c .if1 .taken))
+    let passing = step-gives (c .before .before .before .before .before .before .before .before .args .part .now) _
+    (at .s) (ran .result) (at .i) (c .before .before .before .loop-test .taken) (at .inv .0) (ran .ensures .0)
+    (ran .ensures .1) in
+    sym (vowel-passed (c .before .before .before .before .before .before .before .before .args .part .now) _
+    (ran .result) (at .i + 1) passing (c .if1 .taken))
 
 add-i : tie.Need-add-i Inv-loop μ-loop
 add-i c = omega arith
@@ -52,7 +55,9 @@ loop-again : tie.Need-loop-again Inv-loop μ-loop
 loop-again c =
     let at = c .before .before .before .before .loop in
     let ran = c .before .step in
-    let passing = step-gives (c .before .before .before .before .before .before .before .before .args .part .now) _ (at .s) (ran .result) (at .i) (c .before .before .before .loop-test .taken) (at .inv .0) (ran .ensures .0) (ran .ensures .1) in
+    let passing = step-gives (c .before .before .before .before .before .before .before .before .args .part .now) _
+    (at .s) (ran .result) (at .i) (c .before .before .before .loop-test .taken) (at .inv .0) (ran .ensures .0)
+    (ran .ensures .1) in
     (passing, c .if1 .left)
 
 returns-2 : tie.Need-returns-2 Inv-loop μ-loop

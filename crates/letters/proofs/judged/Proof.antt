@@ -48,7 +48,9 @@ returns-6 : tie.Need-returns-6
 unfolding holds conditions lastIs
 returns-6 c =
     let condition = c .before .before .before .args .condition in
-    let none-of : 9 ≤ condition = beyond 8 (beyond 7 (beyond 6 (beyond 5 (beyond 4 (c .before .before .before .pre .0) (c .match .rest .0 .0 .0 .0 .1)) (c .match .rest .0 .0 .0 .1)) (c .match .rest .0 .0 .1)) (c .match .rest .0 .1)) (c .match .rest .1) in
+    let none-of : 9 ≤ condition = beyond 8 (beyond 7 (beyond 6 (beyond 5 (beyond 4 (c .before .before .before .pre .0)
+    (c .match .rest .0 .0 .0 .0 .1)) (c .match .rest .0 .0 .0 .1)) (c .match .rest .0 .0 .1))
+    (c .match .rest .0 .1)) (c .match .rest .1) in
     sym (List·getD-eq-default (conditions (c .before .before .before .args .part .now)) false none-of)
 
 pub judged-spec : {M : Type 1} → statement M

@@ -43,7 +43,8 @@ loop-again : tie.Need-loop-again Inv-loop μ-loop
 loop-again c =
     let at = c .before .before .before .loop in
     let ran = c .step in
-    let passing = step-gives (c .before .before .before .before .before .before .before .args .part .now) _ (at .s) (ran .result) (at .i) (c .before .before .loop-test .taken) (at .inv) (ran .ensures .0) (ran .ensures .1) in
+    let passing = step-gives (c .before .before .before .before .before .before .before .args .part .now) _ (at .s)
+    (ran .result) (at .i) (c .before .before .loop-test .taken) (at .inv) (ran .ensures .0) (ran .ensures .1) in
     passing
 
 returns : tie.Need-returns Inv-loop μ-loop

@@ -21,13 +21,20 @@ add-t7 c = search needs
 
 returns-2 : tie.Need-returns-2
 returns-2 c =
-    let a = c .before .before .before .before .args in
-    (omega arith, λ part h. after-consonant part (a .s) h (a .letter) (a .s .measure + 1) (sym (c .before .before .before .vowel-after .ensures) ∙ c .before .before .if1 .left) (rw (eq-eqb _ _ (c .before .if2 .taken))))
+    let a = c .before .before .before .before .args in (
+      omega arith,
+      λ part h. after-consonant part (a .s) h (a .letter) (a .s .measure + 1) (sym
+          (c .before .before .before .vowel-after .ensures) ∙ c .before .before .if1 .left) (rw (eq-eqb _ _
+          (c .before .if2 .taken))),
+    )
 
 returns-3 : tie.Need-returns-3
 returns-3 c =
-    let a = c .before .before .before .args in
-    (omega arith, λ part h. after-consonant part (a .s) h (a .letter) (a .s .measure) (sym (c .before .before .vowel-after .ensures) ∙ c .before .if1 .left) (rw (ne-eqb _ _ (c .if2 .left))))
+    let a = c .before .before .before .args in (
+      omega arith,
+      λ part h. after-consonant part (a .s) h (a .letter) (a .s .measure) (sym
+          (c .before .before .vowel-after .ensures) ∙ c .before .if1 .left) (rw (ne-eqb _ _ (c .if2 .left))),
+    )
 
 pub step-spec : {M : Type 1} → statement M
 step-spec = tie.close (tie.spec vowel-after-requires returns add-t7 returns-2 returns-3)

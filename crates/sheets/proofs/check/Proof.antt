@@ -56,7 +56,8 @@ enum-known-found c = search needs
 misplaced-group-requires : tie.Need-misplaced-group-requires Inv-loop μ-loop
 misplaced-group-requires c κs = tt
 
-group-of : (c : tie.After-misplaced-group Inv-loop μ-loop) → GroupHere (rest (c .before .before .before .before)) (c .before .before .found .given .0 .0)
+group-of : (c : tie.After-misplaced-group Inv-loop μ-loop) → GroupHere (rest (c .before .before .before .before))
+    (c .before .before .found .given .0 .0)
 group-of c = group-here _ _ (sym (c .before .before .before .before .draw .ensures) ∙ c .before .before .found .given .1)
 
 group-judged : (groups number : ℕ) (bytes : List ℕ) → number ≡ gateNumber bytes
@@ -65,7 +66,8 @@ unfolding misplacedGroup
 group-judged groups number bytes is = rw is
 
 group-test : (c : tie.After-misplaced-group Inv-loop μ-loop)
-    → c .misplaced-group .result ≡ misplacedGroup (c .before .before .before .before .before .before .loop .groups) (body (rest (c .before .before .before .before)))
+    → c .misplaced-group .result ≡ misplacedGroup (c .before .before .before .before .before .before .loop .groups)
+    (body (rest (c .before .before .before .before)))
 group-test c = c .misplaced-group .ensures ∙ group-judged _ _ _ (group-of c .gate-is)
 
 returns : tie.Need-returns Inv-loop μ-loop
@@ -82,7 +84,8 @@ add-groups c = omega (arith, c .before .before .before .before .before .before .
 add-nodes : tie.Need-add-nodes Inv-loop μ-loop
 add-nodes c = let turn = c .before .before .before .before .before .before .before .loop in omega (arith, turn .inv .1, turn .inv .2, turn .inv .3)
 
-group-within : (c : tie.Else1 Inv-loop μ-loop) → c .before .before .before .before .before .before .before .loop .at + 6 ≤ length (c .before .before .before .before .before .before .before .before .before .args .sheet .now)
+group-within : (c : tie.Else1 Inv-loop μ-loop) → c .before .before .before .before .before .before .before .loop .at + 6
+    ≤ length (c .before .before .before .before .before .before .before .before .before .args .sheet .now)
 group-within c = group-inside (c .before .before .before .before .before .before .before .loop .inv .5) (group-of (c .before))
 
 add-at : tie.Need-add-at Inv-loop μ-loop
@@ -122,7 +125,8 @@ rule-of : (c : tie.After-misplaced-rule Inv-loop μ-loop) → RuleHere (rest (c 
 rule-of c = rule-here _ _ _ _ _ _ (sym (c .before .before .before .before .draw .ensures) ∙ c .before .before .found2 .given .1)
 
 rule-test : (c : tie.After-misplaced-rule Inv-loop μ-loop)
-    → c .misplaced-rule .result ≡ misplacedRule (c .before .before .before .before .before .before .loop .groups) (c .before .before .before .before .before .before .loop .rules)
+    → c .misplaced-rule .result ≡ misplacedRule (c .before .before .before .before .before .before .loop .groups)
+    (c .before .before .before .before .before .before .loop .rules)
 unfolding misplacedRule
 rule-test c = c .misplaced-rule .ensures
 
@@ -141,16 +145,19 @@ add-rules : tie.Need-add-rules Inv-loop μ-loop
 add-rules c = omega (arith, c .before .before .before .before .before .before .before .before .loop .inv .2)
 
 sub-nodes : tie.Need-sub-nodes Inv-loop μ-loop
-sub-nodes c = shared-short (c .before .before .before .before .before .before .before .before .loop .inv .5) (rule-of (c .before .before)) (c .longest-shared .result) (c .longest-shared .ensures)
+sub-nodes c = shared-short (c .before .before .before .before .before .before .before .before .loop .inv .5) (rule-of
+    (c .before .before)) (c .longest-shared .result) (c .longest-shared .ensures)
 
 short : (c : tie.After-longest-shared Inv-loop μ-loop) → s1 (c .before .before) ≤ 12
 short c = ending-short (c .before .before .before .before .before .before .before .before .loop .inv .5) (rule-of (c .before .before))
 
 add-nodes-2 : tie.Need-add-nodes-2 Inv-loop μ-loop
-add-nodes-2 c = let turn = c .before .before .before .before .before .before .before .before .loop in omega (arith, turn .inv .1, turn .inv .2, turn .inv .3, short c)
+add-nodes-2 c = let turn = c .before .before .before .before .before .before .before .before .loop in omega
+    (arith, turn .inv .1, turn .inv .2, turn .inv .3, short c)
 
 rule-within : (c : tie.After-longest-shared Inv-loop μ-loop)
-    → c .before .before .before .before .before .before .before .before .loop .at + (8 + s1 (c .before .before) + s2 (c .before .before)) ≤ length (c .before .before .before .before .before .before .before .before .before .before .args .sheet .now)
+    → c .before .before .before .before .before .before .before .before .loop .at + (8 + s1 (c .before .before) + s2
+    (c .before .before)) ≤ length (c .before .before .before .before .before .before .before .before .before .before .args .sheet .now)
 rule-within c = rule-inside (c .before .before .before .before .before .before .before .before .loop .inv .5) (rule-of (c .before .before))
 
 add-at-2 : tie.Need-add-at-2 Inv-loop μ-loop

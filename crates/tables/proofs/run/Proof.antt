@@ -28,21 +28,27 @@ enum-known-found-2 c = search needs
 mul-end : tie.Need-mul-end
 mul-end c =
     let a = c .before .before .before .before .before .before .before .before .before .args in
-    let is = run-accepted (a .sheet .now) _ (a .table .now) (a .word .now) _ (sym (c .before .found2 .given .1) ∙ c .before .before .before .before .translate .ensures .0) in
+    let is = run-accepted (a .sheet .now) _ (a .table .now) (a .word .now) _ (sym (c .before .found2 .given .1)
+    ∙ c .before .before .before .before .translate .ensures .0) in
     omega (arith, small-table (a .sheet .now) (is .0), is .1)
 
 returns : tie.Need-returns
 returns c =
     let a = c .before .before .before .before .before .before .before .before .before .before .args in
-    run-missing (a .sheet .now) _ (a .table .now) (a .word .now) _ (sym (c .before .before .found2 .given .1) ∙ c .before .before .before .before .before .translate .ensures .0) (c .if1 .taken)
+    run-missing (a .sheet .now) _ (a .table .now) (a .word .now) _ (sym (c .before .before .found2 .given .1)
+    ∙ c .before .before .before .before .before .translate .ensures .0) (c .if1 .taken)
 
 slice-aggregate-same-numbers : tie.Need-slice-aggregate-same-numbers
-slice-aggregate-same-numbers c = sym (length-take-le (4 * c .before .before .before .found2 .given .0 .0) (c .before .before .before .before .before .before .before .before .before .before .before .args .table .now) (c .before .if1 .left))
+slice-aggregate-same-numbers c = sym (length-take-le (4 * c .before .before .before .found2 .given .0 .0)
+    (c .before .before .before .before .before .before .before .before .before .before .before .args .table .now)
+    (c .before .if1 .left))
 
 array-share-prefix-own : tie.Need-array-share-prefix-own
 array-share-prefix-own c =
     let a = c .before .before .before .before .before .before .before .before .before .before .before .args in
-    let is = run-accepted (a .sheet .now) _ (a .table .now) (a .word .now) _ (sym (c .before .before .before .found2 .given .1) ∙ c .before .before .before .before .before .before .translate .ensures .0) in
+    let is = run-accepted (a .sheet .now) _ (a .table .now) (a .word .now) _ (sym
+    (c .before .before .before .found2 .given .1) ∙
+    c .before .before .before .before .before .before .translate .ensures .0) in
     let within = small-table (a .sheet .now) (is .0) in
     let long = c .before .before .before .before .before .before .translate .kept .1 .0 in
     omega (arith, within, long, is .1)
@@ -50,10 +56,14 @@ array-share-prefix-own c =
 slice-aggregate-same-numbers-2 : tie.Need-slice-aggregate-same-numbers-2
 slice-aggregate-same-numbers-2 c =
     let a = c .before .before .before .before .before .before .before .before .before .before .before .before .args in
-    let is = run-accepted (a .sheet .now) _ (a .table .now) (a .word .now) _ (sym (c .before .before .before .before .found2 .given .1) ∙ c .before .before .before .before .before .before .before .translate .ensures .0) in
+    let is = run-accepted (a .sheet .now) _ (a .table .now) (a .word .now) _ (sym
+    (c .before .before .before .before .found2 .given .1)
+    ∙ c .before .before .before .before .before .before .before .translate .ensures .0) in
     let within = small-table (a .sheet .now) (is .0) in
     let long = c .before .before .before .before .before .before .before .translate .kept .1 .0 in
-    sym (length-take-le (4 * c .before .before .before .before .found2 .given .0 .0) (c .before .before .before .before .before .before .before .translate .last .1 .0) (omega (arith, within, long, is .1)))
+    sym (length-take-le (4 * c .before .before .before .before .found2 .given .0 .0)
+    (c .before .before .before .before .before .before .before .translate .last .1 .0) (omega
+    (arith, within, long, is .1)))
 
 same-numbers-requires : tie.Need-same-numbers-requires
 same-numbers-requires c κs = search needs
@@ -61,25 +71,35 @@ same-numbers-requires c κs = search needs
 returns-2 : tie.Need-returns-2
 returns-2 c =
     let a = c .before .before .before .before .before .before .before .before .before .before .before .before .before .before .args in
-    run-other (a .sheet .now) _ (a .table .now) (a .word .now) _ (sym (c .before .before .before .before .before .before .found2 .given .1) ∙ c .before .before .before .before .before .before .before .before .before .translate .ensures .0) _ (c .before .before .before .before .before .before .before .before .before .translate .ensures .1) _ (c .before .same-numbers .ensures) (not-true _ (c .if2 .taken))
+    run-other (a .sheet .now) _ (a .table .now) (a .word .now) _ (sym
+    (c .before .before .before .before .before .before .found2 .given .1)
+    ∙ c .before .before .before .before .before .before .before .before .before .translate .ensures .0) _
+    (c .before .before .before .before .before .before .before .before .before .translate .ensures .1) _
+    (c .before .same-numbers .ensures) (not-true _ (c .if2 .taken))
 
 slice-aggregate-word-run : tie.Need-slice-aggregate-word-run
-slice-aggregate-word-run c = sym (length-take-le (4 * c .before .before .before .before .before .before .before .found2 .given .0 .0) (c .before .before .before .before .before .before .before .before .before .before .before .before .before .before .before .args .table .now) (c .before .before .before .before .before .if1 .left))
+slice-aggregate-word-run c = sym (length-take-le (4 *
+    c .before .before .before .before .before .before .before .found2 .given .0 .0)
+    (c .before .before .before .before .before .before .before .before .before .before .before .before .before .before .before .args .table .now) (c .before .before .before .before .before .if1 .left))
 
 word-run-requires : tie.Need-word-run-requires
 word-run-requires c κs =
     let a = c .before .before .before .before .before .before .before .before .before .before .before .before .before .before .before .before .args in
-    run-accepted (a .sheet .now) _ (a .table .now) (a .word .now) _ (sym (c .before .before .before .before .before .before .before .before .found2 .given .1) ∙ c .before .before .before .before .before .before .before .before .before .before .before .translate .ensures .0) .0
+    run-accepted (a .sheet .now) _ (a .table .now) (a .word .now) _ (sym
+    (c .before .before .before .before .before .before .before .before .found2 .given .1)
+    ∙ c .before .before .before .before .before .before .before .before .before .before .before .translate .ensures .0) .0
 
 returns-3 : tie.Need-returns-3
 returns-3 c =
     let a = c .before .before .before .before .before .before .before .before .before .args in
-    run-refused (a .sheet .now) _ (a .table .now) (a .word .now) _ (sym (c .before .found .given .1) ∙ c .before .before .before .before .translate .ensures .0)
+    run-refused (a .sheet .now) _ (a .table .now) (a .word .now) _ (sym (c .before .found .given .1)
+    ∙ c .before .before .before .before .translate .ensures .0)
 
 returns-4 : tie.Need-returns-4
 returns-4 c =
     let a = c .before .before .before .before .before .before .before .before .args in
-    absurd (never-short (a .sheet .now) _ (a .table .now) (a .word .now) refl (sym (c .enum-told .given .1) ∙ c .before .before .before .translate .ensures .0))
+    absurd (never-short (a .sheet .now) _ (a .table .now) (a .word .now) refl (sym (c .enum-told .given .1)
+    ∙ c .before .before .before .translate .ensures .0))
 
 same-length : tie.Need-same-length
 same-length c = search needs
@@ -87,7 +107,9 @@ same-length c = search needs
 returns-5 : tie.Need-returns-5
 returns-5 c =
     let a = c .before .before .before .before .before .before .before .before .before .before .before .before .before .before .before .before .before .before .before .args in
-    run-right (a .sheet .now) _ (a .table .now) (a .word .now) _ (sym (c .before .before .before .before .before .before .before .before .before .before .before .found2 .given .1) ∙ c .before .before .before .before .before .before .before .before .before .before .before .before .before .before .translate .ensures .0) _ (c .before .before .before .before .before .before .before .before .before .before .before .before .before .before .translate .ensures .1) _ (c .before .before .before .before .before .before .same-numbers .ensures) _ _ (not-false _ (c .before .before .before .before .before .if2 .left)) (c .before .before .word-run .ensures)
+    run-right (a .sheet .now) _ (a .table .now) (a .word .now) _ (sym
+    (c .before .before .before .before .before .before .before .before .before .before .before .found2 .given .1)
+    ∙ c .before .before .before .before .before .before .before .before .before .before .before .before .before .before .translate .ensures .0) _ (c .before .before .before .before .before .before .before .before .before .before .before .before .before .before .translate .ensures .1) _ (c .before .before .before .before .before .before .same-numbers .ensures) _ _ (not-false _ (c .before .before .before .before .before .if2 .left)) (c .before .before .word-run .ensures)
 
 pub run-spec : {M : Type 1} → statement M
 run-spec =

@@ -31,24 +31,29 @@ enum-known-found-2 c = search needs
 mul-end : tie.Need-mul-end
 mul-end c =
     let sheet = c .before .before .before .before .before .before .args .sheet .now in
-    let is = checked-accepted sheet (c .before .found2 .given .0 .0) (sym (c .before .before .before .check .ensures) ∙ c .before .found2 .given .1) in
+    let is = checked-accepted sheet (c .before .found2 .given .0 .0) (sym (c .before .before .before .check .ensures)
+    ∙ c .before .found2 .given .1) in
     omega (arith, small-table sheet (is .0), is .1)
 
 returns : tie.Need-returns
 returns c =
     let a = c .before .before .before .before .before .before .before .args in
-    let outcome = translation-short (a .sheet .now) (a .table .now) _ (sym (c .before .before .before .before .check .ensures) ∙ c .before .before .found2 .given .1) (c .if1 .taken) in
+    let outcome = translation-short (a .sheet .now) (a .table .now) _ (sym
+    (c .before .before .before .before .check .ensures) ∙ c .before .before .found2 .given .1) (c .if1 .taken) in
     (ap (λ (t : Translation). t .answer) (sym outcome), ap (λ (t : Translation). t .table) (sym outcome))
 
 group-count-requires : tie.Need-group-count-requires
 group-count-requires c κs =
-    checked-accepted (c .before .before .before .before .before .before .before .args .sheet .now) _ (sym (c .before .before .before .before .check .ensures) ∙ c .before .before .found2 .given .1) .0
+    checked-accepted (c .before .before .before .before .before .before .before .args .sheet .now) _ (sym
+    (c .before .before .before .before .check .ensures) ∙ c .before .before .found2 .given .1) .0
 
 slice-relend-prefix-lay : tie.Need-slice-relend-prefix-lay
 slice-relend-prefix-lay c = search needs
 
 slice-aggregate-lay : tie.Need-slice-aggregate-lay
-slice-aggregate-lay c = sym (length-take-le (4 * c .before .before .before .before .before .found2 .given .0 .0) (c .before .before .before .before .before .before .before .before .before .before .args .table .now) (c .before .before .before .if1 .left))
+slice-aggregate-lay c = sym (length-take-le (4 * c .before .before .before .before .before .found2 .given .0 .0)
+    (c .before .before .before .before .before .before .before .before .before .before .args .table .now)
+    (c .before .before .before .if1 .left))
 
 above-none : (n : ℕ) → (n ≡ 0 → ⊥) → 0 < n
 above-none n h = omega arith
@@ -56,15 +61,20 @@ above-none n h = omega arith
 lay-requires : tie.Need-lay-requires
 lay-requires c κs =
     let sheet = c .before .before .before .before .before .before .before .before .before .before .args .sheet .now in
-    let is = checked-accepted sheet (c .before .before .before .before .before .found2 .given .0 .0) (sym (c .before .before .before .before .before .before .before .check .ensures) ∙ c .before .before .before .before .before .found2 .given .1) in
-    let long = length-take-le (4 * c .before .before .before .before .before .found2 .given .0 .0) (c .before .before .before .before .before .before .before .before .before .before .args .table .now) (c .before .before .before .if1 .left) in
+    let is = checked-accepted sheet (c .before .before .before .before .before .found2 .given .0 .0) (sym
+    (c .before .before .before .before .before .before .before .check .ensures)
+    ∙ c .before .before .before .before .before .found2 .given .1) in
+    let long = length-take-le (4 * c .before .before .before .before .before .found2 .given .0 .0)
+    (c .before .before .before .before .before .before .before .before .before .before .args .table .now)
+    (c .before .before .before .if1 .left) in
     let some = c .before .if2 .taken in
     (is .0, (above-none _ some, (c .before .before .group-count .ensures, long ∙ ap (λ (n : ℕ). 4 * n) (is .1))))
 
 returns-2 : tie.Need-returns-2
 returns-2 c =
     let a = c .before .before .before .before .before .before .args in
-    let outcome = translation-refused (a .sheet .now) (a .table .now) _ (sym (c .before .before .before .check .ensures) ∙ c .before .found .given .1) in
+    let outcome = translation-refused (a .sheet .now) (a .table .now) _ (sym (c .before .before .before .check .ensures)
+    ∙ c .before .found .given .1) in
     (ap (λ (t : Translation). t .answer) (sym outcome), ap (λ (t : Translation). t .table) (sym outcome))
 
 same-length : tie.Need-same-length
@@ -74,7 +84,10 @@ returns-3 : tie.Need-returns-3
 returns-3 c =
     let a = c .before .before .before .before .before .before .before .before .before .before .before .before .before .args in
     let nodes = c .before .before .before .before .before .before .before .before .found2 .given .0 .0 in
-    let outcome = translation-done (a .sheet .now) (a .table .now) nodes (sym (c .before .before .before .before .before .before .before .before .before .before .check .ensures) ∙ c .before .before .before .before .before .before .before .before .found2 .given .1) (c .before .before .before .before .before .before .if1 .left) in (
+    let outcome = translation-done (a .sheet .now) (a .table .now) nodes (sym
+    (c .before .before .before .before .before .before .before .before .before .before .check .ensures)
+    ∙ c .before .before .before .before .before .before .before .before .found2 .given .1)
+    (c .before .before .before .before .before .before .if1 .left) in (
       ap (λ (t : Translation). t .answer) (sym outcome),
       ap (λ (l : List ℕ). l ++ drop (4 * nodes) (a .table .now)) (c .before .before .lay .ensures) ∙ ap (λ (t : Translation). t .table) (sym outcome),
     )

@@ -27,7 +27,8 @@ shared-slice-read-wide : tie.Need-shared-slice-read-wide
 shared-slice-read-wide c =
     let s = c .before .before .before .before .before .before .before .before in
     let column = c .before .column in
-    let index = indexed (s .args .candidates .now) (s .args .blocks .now) (s .args .group) (column .result) (s .pre .0 .1 .0) (s .pre .0 .1 .1) (s .pre .0 .0) (column .ensures .0) in
+    let index = indexed (s .args .candidates .now) (s .args .blocks .now) (s .args .group) (column .result)
+    (s .pre .0 .1 .0) (s .pre .0 .1 .1) (s .pre .0 .0) (column .ensures .0) in
     omega (arith, index .known)
 
 wide-requires : tie.Need-wide-requires
@@ -40,7 +41,8 @@ shared-slice-read-wide-2 : tie.Need-shared-slice-read-wide-2
 shared-slice-read-wide-2 c =
     let s = c .before .before .before .before .before .before .before .before .before .before in
     let column = c .before .before .before .column in
-    let index = indexed (s .args .candidates .now) (s .args .blocks .now) (s .args .group) (column .result) (s .pre .0 .1 .0) (s .pre .0 .1 .1) (s .pre .0 .0) (column .ensures .0) in
+    let index = indexed (s .args .candidates .now) (s .args .blocks .now) (s .args .group) (column .result)
+    (s .pre .0 .1 .0) (s .pre .0 .1 .1) (s .pre .0 .0) (column .ensures .0) in
     omega (arith, index .known)
 
 wide-requires-2 : tie.Need-wide-requires-2
@@ -51,7 +53,8 @@ unfolding picked first
 returns c =
     let s = c .before .before .before .before .before .before .before .before .before .before .before .before in
     let column = c .before .before .before .before .before .column in
-    let index = indexed (s .args .candidates .now) (s .args .blocks .now) (s .args .group) (column .result) (s .pre .0 .1 .0) (s .pre .0 .1 .1) (s .pre .0 .0) (column .ensures .0) in
+    let index = indexed (s .args .candidates .now) (s .args .blocks .now) (s .args .group) (column .result)
+    (s .pre .0 .1 .0) (s .pre .0 .1 .1) (s .pre .0 .0) (column .ensures .0) in
     let from = getD (s .args .blocks .now) (26 * s .args .group + column .result) 0 in
     let to = getD (s .args .blocks .now) (26 * s .args .group + column .result + 1) 0 in
     let none-between : to - from ≡ 0 =
@@ -65,49 +68,72 @@ sub-few : tie.Need-sub-few
 sub-few c =
     let s = c .before .before .before .before .before .before .before .before .before .before .before .before in
     let column = c .before .before .before .before .before .column in
-    let index = indexed (s .args .candidates .now) (s .args .blocks .now) (s .args .group) (column .result) (s .pre .0 .1 .0) (s .pre .0 .1 .1) (s .pre .0 .0) (column .ensures .0) in
+    let index = indexed (s .args .candidates .now) (s .args .blocks .now) (s .args .group) (column .result)
+    (s .pre .0 .1 .0) (s .pre .0 .1 .1) (s .pre .0 .0) (column .ensures .0) in
     omega (arith, index .rising, c .before .wide2 .ensures, c .before .before .before .wide .ensures)
 
 part-few-start : tie.Need-part-few-start
 part-few-start c =
     let s = c .before .before .before .before .before .before .before .before .before .before .before .before in
     let column = c .before .before .before .before .before .column in
-    let index = indexed (s .args .candidates .now) (s .args .blocks .now) (s .args .group) (column .result) (s .pre .0 .1 .0) (s .pre .0 .1 .1) (s .pre .0 .0) (column .ensures .0) in
+    let index = indexed (s .args .candidates .now) (s .args .blocks .now) (s .args .group) (column .result)
+    (s .pre .0 .1 .0) (s .pre .0 .1 .1) (s .pre .0 .0) (column .ensures .0) in
     omega (arith, index .rising, c .before .wide2 .ensures, c .before .before .before .wide .ensures)
 
 part-few-end : tie.Need-part-few-end
 part-few-end c =
     let s = c .before .before .before .before .before .before .before .before .before .before .before .before in
     let column = c .before .before .before .before .before .column in
-    let index = indexed (s .args .candidates .now) (s .args .blocks .now) (s .args .group) (column .result) (s .pre .0 .1 .0) (s .pre .0 .1 .1) (s .pre .0 .0) (column .ensures .0) in
+    let index = indexed (s .args .candidates .now) (s .args .blocks .now) (s .args .group) (column .result)
+    (s .pre .0 .1 .0) (s .pre .0 .1 .1) (s .pre .0 .0) (column .ensures .0) in
     omega (arith, index .within, c .before .wide2 .ensures)
 
 longest-requires : tie.Need-longest-requires
 longest-requires c κs =
     let s = c .before .before .before .before .before .before .before .before .before .before .before .before .before in
     let column = c .before .before .before .before .before .before .column in
-    let index = indexed (s .args .candidates .now) (s .args .blocks .now) (s .args .group) (column .result) (s .pre .0 .1 .0) (s .pre .0 .1 .1) (s .pre .0 .0) (column .ensures .0) in
-    let part : take (c .before .before .wide2 .result - c .before .before .before .before .wide .result) (drop (c .before .before .before .before .wide .result) (s .args .candidates .now)) ≡ few (s .args .candidates .now) (s .args .blocks .now) (26 * s .args .group + column .result) = rw (c .before .before .wide2 .ensures, c .before .before .before .before .wide .ensures) in
+    let index = indexed (s .args .candidates .now) (s .args .blocks .now) (s .args .group) (column .result)
+    (s .pre .0 .1 .0) (s .pre .0 .1 .1) (s .pre .0 .0) (column .ensures .0) in
+    let part : take (c .before .before .wide2 .result - c .before .before .before .before .wide .result) (drop
+    (c .before .before .before .before .wide .result) (s .args .candidates .now))
+    ≡ few (s .args .candidates .now) (s .args .blocks .now) (26 * s .args .group + column .result) = rw
+    (c .before .before .wide2 .ensures, c .before .before .before .before .wide .ensures) in
     (rw part (rw rule-count at (index .block .known)), (s .pre .1 .0, s .pre .1 .1 .0))
 
 obeyed-requires : tie.Need-obeyed-requires
 obeyed-requires c κs =
     let s = c .before .before .before .before .before .before .before .before .before .before .before .before .before .before in
     let column = c .before .before .before .before .before .before .before .column in
-    let index = indexed (s .args .candidates .now) (s .args .blocks .now) (s .args .group) (column .result) (s .pre .0 .1 .0) (s .pre .0 .1 .1) (s .pre .0 .0) (column .ensures .0) in
-    let part : take (c .before .before .before .wide2 .result - c .before .before .before .before .before .wide .result) (drop (c .before .before .before .before .before .wide .result) (s .args .candidates .now)) ≡ few (s .args .candidates .now) (s .args .blocks .now) (26 * s .args .group + column .result) = rw (c .before .before .before .wide2 .ensures, c .before .before .before .before .before .wide .ensures) in
+    let index = indexed (s .args .candidates .now) (s .args .blocks .now) (s .args .group) (column .result)
+    (s .pre .0 .1 .0) (s .pre .0 .1 .1) (s .pre .0 .0) (column .ensures .0) in
+    let part : take (c .before .before .before .wide2 .result - c .before .before .before .before .before .wide .result)
+    (drop (c .before .before .before .before .before .wide .result) (s .args .candidates .now))
+    ≡ few (s .args .candidates .now) (s .args .blocks .now) (26 * s .args .group + column .result) = rw
+    (c .before .before .before .wide2 .ensures, c .before .before .before .before .before .wide .ensures) in
     (rw part (rw rule-count at (index .block .known)), s .pre .1)
 
 returns-2 : tie.Need-returns-2
 returns-2 c =
     let s = c .before .before .before .before .before .before .before .before .before .before .before .before .before .before .before in
     let column = c .before .before .before .before .before .before .before .before .column in
-    let index = indexed (s .args .candidates .now) (s .args .blocks .now) (s .args .group) (column .result) (s .pre .0 .1 .0) (s .pre .0 .1 .1) (s .pre .0 .0) (column .ensures .0) in
-    let part : take (c .before .before .before .before .wide2 .result - c .before .before .before .before .before .before .wide .result) (drop (c .before .before .before .before .before .before .wide .result) (s .args .candidates .now)) ≡ few (s .args .candidates .now) (s .args .blocks .now) (26 * s .args .group + column .result) = rw (c .before .before .before .before .wide2 .ensures, c .before .before .before .before .before .before .wide .ensures) in
-    let taken = take (c .before .before .before .before .wide2 .result - c .before .before .before .before .before .before .wide .result) (drop (c .before .before .before .before .before .before .wide .result) (s .args .candidates .now)) in
+    let index = indexed (s .args .candidates .now) (s .args .blocks .now) (s .args .group) (column .result)
+    (s .pre .0 .1 .0) (s .pre .0 .1 .1) (s .pre .0 .0) (column .ensures .0) in
+    let part : take (c .before .before .before .before .wide2 .result -
+    c .before .before .before .before .before .before .wide .result) (drop
+    (c .before .before .before .before .before .before .wide .result) (s .args .candidates .now))
+    ≡ few (s .args .candidates .now) (s .args .blocks .now) (26 * s .args .group + column .result) = rw (
+      c .before .before .before .before .wide2 .ensures,
+      c .before .before .before .before .before .before .wide .ensures,
+    ) in
+    let taken = take (c .before .before .before .before .wide2 .result -
+    c .before .before .before .before .before .before .wide .result) (drop
+    (c .before .before .before .before .before .before .wide .result) (s .args .candidates .now)) in
     let block : Block taken (97 + column .result) (groupRules (s .args .group)) = rw part (index .block) in
-    let turns = c .obeyed .ensures .0 ∙ ap (λ (n : ℕ). first (obeys (s .args .word .now) n) (map ruleAt taken)) (c .before .longest .ensures) in
-    (few-obeyed (s .args .word .now) taken (s .args .group) (column .result) (picked (c .obeyed .result)) (column .ensures) block turns, c .obeyed .ensures .1)
+    let turns = c .obeyed .ensures .0 ∙ ap (λ (n : ℕ). first (obeys (s .args .word .now) n) (map ruleAt taken)) (c .before .longest .ensures) in (
+      few-obeyed (s .args .word .now) taken (s .args .group) (column .result) (picked (c .obeyed .result))
+          (column .ensures) block turns,
+      c .obeyed .ensures .1,
+    )
 
 pub choose-spec : {M : Type 1} → statement M
 choose-spec =

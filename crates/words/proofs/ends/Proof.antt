@@ -17,7 +17,11 @@ add-wide : tie.Need-add-wide
 add-wide c = search needs
 
 shared-slice-read-wide-2 : tie.Need-shared-slice-read-wide-2
-shared-slice-read-wide-2 c = let s = c .before .before .before .before .before .before in omega (arith, ending-row _ _ (s .pre .0) (s .pre .1 .1) .known)
+shared-slice-read-wide-2 c = let s = c .before .before .before .before .before .before in omega (
+  arith,
+  ending-row _ _
+      (s .pre .0) (s .pre .1 .1) .known,
+)
 
 wide-requires-2 : tie.Need-wide-requires-2
 wide-requires-2 c κs = search needs

@@ -29,7 +29,8 @@ from-next :
 from-next word candidates i h = rw (add-one, drop-cons candidates i 0 h)
 
 abbrev Inv-loop : tie.InvT-loop
-Inv-loop word candidates endings starts most₀ i₀ most i = (i ≤ length candidates) × (max most (from-place word candidates i) ≡ from-place word candidates 0)
+Inv-loop word candidates endings starts most₀ i₀ most i = (i ≤ length candidates) × (max most
+    (from-place word candidates i) ≡ from-place word candidates 0)
 
 abbrev μ-loop : tie.MeasureT-loop
 μ-loop word candidates endings starts most₀ i₀ most i = length candidates - i
@@ -52,7 +53,8 @@ size-requires c κs =
 ends-requires : tie.Need-ends-requires Inv-loop μ-loop
 ends-requires c κs =
     let s = c .before .before .before .before .before .before .before .before .before .before in
-    let known = below-at 62 (s .args .candidates .now) (c .before .before .before .before .before .loop .i) (s .pre .0) (c .before .before .before .before .loop-test .taken) in
+    let known = below-at 62 (s .args .candidates .now) (c .before .before .before .before .before .loop .i) (s .pre .0)
+    (c .before .before .before .before .loop-test .taken) in
     (omega (arith, c .before .before .wide .ensures, known), s .pre .1)
 
 add-i : tie.Need-add-i Inv-loop μ-loop

@@ -37,7 +37,8 @@ returns : tie.Need-returns
 returns c =
     let s = c .before .before .before .before .before in
     let action = ruleAt (s .args .rule) .action in
-    let one = act-single action (s .args .word .now) (s .args .part) (sym (c .before .before .single .ensures) ∙ c .before .if1 .taken) (s .pre .0 .1) in
+    let one = act-single action (s .args .word .now) (s .args .part) (sym (c .before .before .single .ensures)
+    ∙ c .before .if1 .taken) (s .pre .0 .1) in
     let none : s .args .part - 1 ≡ 0 = omega arith in
     (sym (one ∙ ap (λ (k : ℕ). take k (s .args .word .now)) none), (omega arith, c .before .before .before .opens .ensures))
 
@@ -48,7 +49,8 @@ returns-2 : tie.Need-returns-2
 returns-2 c =
     let s = c .before .before .before .before .before in
     let action = ruleAt (s .args .rule) .action in
-    let one = act-single action (s .args .word .now) (s .args .part) (sym (c .before .before .single .ensures) ∙ c .before .if1 .taken) (s .pre .0 .1) in
+    let one = act-single action (s .args .word .now) (s .args .part) (sym (c .before .before .single .ensures)
+    ∙ c .before .if1 .taken) (s .pre .0 .1) in
     (sym one, (omega arith, c .before .before .before .opens .ensures))
 
 slice-aggregate-replace : tie.Need-slice-aggregate-replace
@@ -70,8 +72,15 @@ returns-3 : tie.Need-returns-3
 returns-3 c =
     let s = c .before .before .before .before .before .before .before .before .before .before in
     let action = ruleAt (s .args .rule) .action in
-    let two = act-replace action (take (s .args .part) (s .args .word .now)) (sym (c .before .before .before .before .before .before .before .single .ensures) ∙ c .before .before .before .before .before .before .if1 .left) in
-    (c .before .before .replace .ensures .0 ∙ sym two, (c .before .before .replace .ensures .1, c .before .before .before .before .before .before .before .before .opens .ensures))
+    let two = act-replace action (take (s .args .part) (s .args .word .now)) (sym
+    (c .before .before .before .before .before .before .before .single .ensures)
+    ∙ c .before .before .before .before .before .before .if1 .left) in (
+      c .before .before .replace .ensures .0 ∙ sym two,
+      (
+        c .before .before .replace .ensures .1,
+        c .before .before .before .before .before .before .before .before .opens .ensures,
+      ),
+    )
 
 pub obey-spec : {M : Type 1} → statement M
 obey-spec =

@@ -38,7 +38,8 @@ unfolding first
 from-next test candidates i h fail = rw (add-one, drop-cons candidates i 0 h, fail)
 
 abbrev Inv-loop : tie.InvT-loop
-Inv-loop word n candidates endings starts conditions i₀ i = (i ≤ length candidates) × (from-place (obeys word n) candidates i ≡ from-place (obeys word n) candidates 0)
+Inv-loop word n candidates endings starts conditions i₀ i = (i ≤ length candidates) × (from-place
+    (obeys word n) candidates i ≡ from-place (obeys word n) candidates 0)
 
 abbrev μ-loop : tie.MeasureT-loop
 μ-loop word n candidates endings starts conditions i₀ i = length candidates - i
@@ -72,7 +73,8 @@ returns c =
     ∙ sym (c .before .passes .ensures)
     ∙ c .if1 .taken in
     let found = from-here (obeys (s .args .word .now) (s .args .n)) candidates (at .i) inside passed in (
-      rw (lt-ltb (c .before .before .wide .result) 62 known) (ap (λ (k : ℕ). some (ruleAt k)) (c .before .before .wide .ensures) ∙ sym found ∙ at .inv .1),
+      rw (lt-ltb (c .before .before .wide .result) 62 known) (ap (λ (k : ℕ). some (ruleAt k))
+          (c .before .before .wide .ensures) ∙ sym found ∙ at .inv .1),
       omega arith,
     )
 

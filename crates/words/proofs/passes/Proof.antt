@@ -44,7 +44,12 @@ sub-part : tie.Need-sub-part
 sub-part c =
     let s = c .before .before .before .before .before .before .before .before in
     let ended : endsWith (s .args .word .now) (ruleAt (s .args .rule) .ending) ≡ true = sym (c .before .ends .ensures) ∙ not-false _ (c .if2 .left) in
-    omega (arith, ending-short (s .args .word .now) (ruleAt (s .args .rule) .ending) ended, c .before .before .if1 .left, c .before .before .before .size .ensures)
+    omega (
+      arith,
+      ending-short (s .args .word .now) (ruleAt (s .args .rule) .ending) ended,
+      c .before .before .if1 .left,
+      c .before .before .before .size .ensures,
+    )
 
 shared-slice-read-holds : tie.Need-shared-slice-read-holds
 shared-slice-read-holds c =

@@ -9,7 +9,8 @@ use Rattle.words.proofs.put.Statement.{statement}
 use Rattle.words.proofs.put.Tie as tie
 
 abbrev Inv-loop : tie.InvT-loop
-Inv-loop word₀ at letters i₀ word i = (i ≤ length letters) × (at + length letters ≤ length word₀) × (length word ≡ length word₀) × (word ≡ paste word₀ at letters i)
+Inv-loop word₀ at letters i₀ word i = (i ≤ length letters) × (at + length letters ≤ length word₀) × (length word
+    ≡ length word₀) × (word ≡ paste word₀ at letters i)
 
 abbrev μ-loop : tie.MeasureT-loop
 μ-loop word₀ at letters i₀ word i = length letters - i

@@ -31,7 +31,8 @@ loop-holds c =
     (omega arith, omega arith, refl, ap (read (length (s .args .word .now)) shipped false) (take-length (s .args .word .now)))
 
 shared-slice-read-if1 : tie.Need-shared-slice-read-if1 Inv-loop μ-loop
-shared-slice-read-if1 c = let s = c .before .before .before .before .before .before .before .before .before .before in omega (arith, ap length (s .pre .0 .0), gate-count)
+shared-slice-read-if1 c = let s = c .before .before .before .before .before .before .before .before .before .before in
+    omega (arith, ap length (s .pre .0 .0), gate-count)
 
 turn-requires : tie.Need-turn-requires Inv-loop μ-loop
 turn-requires c κs =
@@ -81,7 +82,8 @@ returns c =
     let at = c .before .loop in
     let end : at .group ≡ 9 = omega arith in
     let nothing-left : drop (at .group) shipped ≡ [] = ap (λ (k : ℕ). drop k shipped) end in (
-      sym (at .inv .3) ∙ ap (λ (groups : List Group). read (length (s .args .word .now)) groups (at .opened) (take (at .len) (at .word))) nothing-left,
+      sym (at .inv .3) ∙ ap (λ (groups : List Group). read (length (s .args .word .now)) groups (at .opened) (take
+          (at .len) (at .word))) nothing-left,
       omega arith,
     )
 

@@ -24,7 +24,8 @@ follows word after letters part k fits e n =
 shared-slice-read-wide : tie.Need-shared-slice-read-wide
 shared-slice-read-wide c =
     let s = c .before .before .before .before in
-    let row = replacement-row (s .args .rule) (s .args .replacements .now) (s .args .starts .now) (s .pre .0 .0) (s .pre .0 .1 .0) (s .pre .0 .1 .1) in
+    let row = replacement-row (s .args .rule) (s .args .replacements .now) (s .args .starts .now) (s .pre .0 .0)
+    (s .pre .0 .1 .0) (s .pre .0 .1 .1) in
     omega (arith, row .known)
 
 wide-requires : tie.Need-wide-requires
@@ -36,7 +37,8 @@ add-wide c = search needs
 shared-slice-read-wide-2 : tie.Need-shared-slice-read-wide-2
 shared-slice-read-wide-2 c =
     let s = c .before .before .before .before .before .before in
-    let row = replacement-row (s .args .rule) (s .args .replacements .now) (s .args .starts .now) (s .pre .0 .0) (s .pre .0 .1 .0) (s .pre .0 .1 .1) in
+    let row = replacement-row (s .args .rule) (s .args .replacements .now) (s .args .starts .now) (s .pre .0 .0)
+    (s .pre .0 .1 .0) (s .pre .0 .1 .1) in
     omega (arith, row .known)
 
 wide-requires-2 : tie.Need-wide-requires-2
@@ -45,39 +47,61 @@ wide-requires-2 c κs = search needs
 sub-put : tie.Need-sub-put
 sub-put c =
     let s = c .before .before .before .before .before .before .before .before in
-    let row = replacement-row (s .args .rule) (s .args .replacements .now) (s .args .starts .now) (s .pre .0 .0) (s .pre .0 .1 .0) (s .pre .0 .1 .1) in
+    let row = replacement-row (s .args .rule) (s .args .replacements .now) (s .args .starts .now) (s .pre .0 .0)
+    (s .pre .0 .1 .0) (s .pre .0 .1 .1) in
     omega (arith, row .size, c .before .wide2 .ensures, c .before .before .before .wide .ensures)
 
 part-put-start : tie.Need-part-put-start
 part-put-start c =
     let s = c .before .before .before .before .before .before .before .before in
-    let row = replacement-row (s .args .rule) (s .args .replacements .now) (s .args .starts .now) (s .pre .0 .0) (s .pre .0 .1 .0) (s .pre .0 .1 .1) in
+    let row = replacement-row (s .args .rule) (s .args .replacements .now) (s .args .starts .now) (s .pre .0 .0)
+    (s .pre .0 .1 .0) (s .pre .0 .1 .1) in
     omega (arith, row .size, c .before .wide2 .ensures, c .before .before .before .wide .ensures)
 
 part-put-end : tie.Need-part-put-end
 part-put-end c =
     let s = c .before .before .before .before .before .before .before .before in
-    let row = replacement-row (s .args .rule) (s .args .replacements .now) (s .args .starts .now) (s .pre .0 .0) (s .pre .0 .1 .0) (s .pre .0 .1 .1) in
+    let row = replacement-row (s .args .rule) (s .args .replacements .now) (s .args .starts .now) (s .pre .0 .0)
+    (s .pre .0 .1 .0) (s .pre .0 .1 .1) in
     omega (arith, row .within, c .before .wide2 .ensures, c .before .before .before .wide .ensures)
 
 put-requires : tie.Need-put-requires
 put-requires c κs =
     let s = c .before .before .before .before .before .before .before .before .before in
-    let row = replacement-row (s .args .rule) (s .args .replacements .now) (s .args .starts .now) (s .pre .0 .0) (s .pre .0 .1 .0) (s .pre .0 .1 .1) in
-    let letters : take (c .before .before .wide2 .result - c .before .before .before .before .wide .result) (drop (c .before .before .before .before .wide .result) (s .args .replacements .now)) ≡ written (ruleAt (s .args .rule) .action) = rw (c .before .before .wide2 .ensures, c .before .before .before .before .wide .ensures) (row .part) in
+    let row = replacement-row (s .args .rule) (s .args .replacements .now) (s .args .starts .now) (s .pre .0 .0)
+    (s .pre .0 .1 .0) (s .pre .0 .1 .1) in
+    let letters : take (c .before .before .wide2 .result - c .before .before .before .before .wide .result) (drop
+    (c .before .before .before .before .wide .result) (s .args .replacements .now))
+    ≡ written (ruleAt (s .args .rule) .action) = rw (
+      c .before .before .wide2 .ensures,
+      c .before .before .before .before .wide .ensures,
+    ) (row .part) in
     rw letters (s .pre .1)
 
 sub-result : tie.Need-sub-result
 sub-result c =
     let s = c .before .before .before .before .before .before .before .before .before .before .before .before in
-    let row = replacement-row (s .args .rule) (s .args .replacements .now) (s .args .starts .now) (s .pre .0 .0) (s .pre .0 .1 .0) (s .pre .0 .1 .1) in
-    omega (arith, row .size, c .before .before .before .before .before .wide2 .ensures, c .before .before .before .before .before .before .before .wide .ensures)
+    let row = replacement-row (s .args .rule) (s .args .replacements .now) (s .args .starts .now) (s .pre .0 .0)
+    (s .pre .0 .1 .0) (s .pre .0 .1 .1) in
+    omega (
+      arith,
+      row .size,
+      c .before .before .before .before .before .wide2 .ensures,
+      c .before .before .before .before .before .before .before .wide .ensures,
+    )
 
 add-result : tie.Need-add-result
 add-result c =
     let s = c .before .before .before .before .before .before .before .before .before .before .before .before in
-    let row = replacement-row (s .args .rule) (s .args .replacements .now) (s .args .starts .now) (s .pre .0 .0) (s .pre .0 .1 .0) (s .pre .0 .1 .1) in
-    omega (arith, row .size, s .pre .1, c .before .before .before .before .before .wide2 .ensures, c .before .before .before .before .before .before .before .wide .ensures)
+    let row = replacement-row (s .args .rule) (s .args .replacements .now) (s .args .starts .now) (s .pre .0 .0)
+    (s .pre .0 .1 .0) (s .pre .0 .1 .1) in
+    omega (
+      arith,
+      row .size,
+      s .pre .1,
+      c .before .before .before .before .before .wide2 .ensures,
+      c .before .before .before .before .before .before .before .wide .ensures,
+    )
 
 same-length : tie.Need-same-length
 same-length c = search needs
@@ -85,10 +109,27 @@ same-length c = search needs
 returns : tie.Need-returns
 returns c =
     let s = c .before .before .before .before .before .before .before .before .before .before .before .before in
-    let row = replacement-row (s .args .rule) (s .args .replacements .now) (s .args .starts .now) (s .pre .0 .0) (s .pre .0 .1 .0) (s .pre .0 .1 .1) in
-    let letters : take (c .before .before .before .before .before .wide2 .result - c .before .before .before .before .before .before .before .wide .result) (drop (c .before .before .before .before .before .before .before .wide .result) (s .args .replacements .now)) ≡ written (ruleAt (s .args .rule) .action) = rw (c .before .before .before .before .before .wide2 .ensures, c .before .before .before .before .before .before .before .wide .ensures) (row .part) in
-    let k : s .args .part + (c .before .before .before .before .before .wide2 .result - c .before .before .before .before .before .before .before .wide .result) ≡ s .args .part + length (written (ruleAt (s .args .rule) .action)) = omega (arith, row .size, c .before .before .before .before .before .wide2 .ensures, c .before .before .before .before .before .before .before .wide .ensures) in
-    (follows (s .args .word .now) (c .before .before .put .last .0) (written (ruleAt (s .args .rule) .action)) (s .args .part) _ (s .pre .1) (rw letters at (c .before .before .put .ensures)) k, omega (arith, k, s .pre .1))
+    let row = replacement-row (s .args .rule) (s .args .replacements .now) (s .args .starts .now) (s .pre .0 .0)
+    (s .pre .0 .1 .0) (s .pre .0 .1 .1) in
+    let letters : take (c .before .before .before .before .before .wide2 .result -
+    c .before .before .before .before .before .before .before .wide .result) (drop
+    (c .before .before .before .before .before .before .before .wide .result) (s .args .replacements .now))
+    ≡ written (ruleAt (s .args .rule) .action) = rw (
+      c .before .before .before .before .before .wide2 .ensures,
+      c .before .before .before .before .before .before .before .wide .ensures,
+    ) (row .part) in
+    let k : s .args .part + (c .before .before .before .before .before .wide2 .result -
+    c .before .before .before .before .before .before .before .wide .result)
+    ≡ s .args .part + length (written (ruleAt (s .args .rule) .action)) = omega (
+      arith,
+      row .size,
+      c .before .before .before .before .before .wide2 .ensures,
+      c .before .before .before .before .before .before .before .wide .ensures,
+    ) in (
+      follows (s .args .word .now) (c .before .before .put .last .0) (written (ruleAt (s .args .rule) .action))
+          (s .args .part) _ (s .pre .1) (rw letters at (c .before .before .put .ensures)) k,
+      omega (arith, k, s .pre .1),
+    )
 
 pub replace-spec : {M : Type 1} → statement M
 replace-spec =

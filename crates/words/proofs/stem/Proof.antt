@@ -33,7 +33,8 @@ unfolding outcome
 returns-3 c =
     let word = c .before .before .before .before .before .before .args .word .now in
     let other : firstOther word < length word = omega (arith, c .if3 .taken, c .before .first-other .ensures) in
-    gives-refused word OtherByte (outcome-other stem word (c .before .before .before .before .if1 .left) (c .before .before .before .if2 .left) other) refl
+    gives-refused word OtherByte (outcome-other stem word (c .before .before .before .before .if1 .left)
+    (c .before .before .before .if2 .left) other) refl
 
 slice-aggregate-read : tie.Need-slice-aggregate-read
 slice-aggregate-read c = search needs
@@ -69,7 +70,11 @@ unfolding outcome
 returns-4 c =
     let word = c .before .before .before .before .before .before .before .before .before .before .before .before .before .before .before .before .before .before .before .before .args .word .now in
     let read = c .before .before .before .before .before .before .read in
-    let all : length word ≤ firstOther word = omega (arith, c .before .before .before .before .before .before .before .before .before .before .before .before .before .before .if3 .left, c .before .before .before .before .before .before .before .before .before .before .before .before .before .before .before .first-other .ensures) in
+    let all : length word ≤ firstOther word = omega (
+      arith,
+      c .before .before .before .before .before .before .before .before .before .before .before .before .before .before .if3 .left,
+      c .before .before .before .before .before .before .before .before .before .before .before .before .before .before .before .first-other .ensures,
+    ) in
     gives-done word (read .last .0) (c .before .before .fill .last .0) (read .result)
     (outcome-read stem word (c .before .before .before .before .before .before .before .before .before .before .before .before .before .before .before .before .before .before .if1 .left) (c .before .before .before .before .before .before .before .before .before .before .before .before .before .before .before .before .before .if2 .left) all)
     (read .ensures .0)

@@ -15,7 +15,8 @@ slice-reshare-prefix-choose : tie.Need-slice-reshare-prefix-choose
 slice-reshare-prefix-choose c = search needs
 
 slice-aggregate-choose : tie.Need-slice-aggregate-choose
-slice-aggregate-choose c = let s = c .before .before .before .before .before .before .before in sym (length-take-le (s .args .len) (s .args .word .now) (s .pre .1 .1 .0))
+slice-aggregate-choose c = let s = c .before .before .before .before .before .before .before in sym (length-take-le
+    (s .args .len) (s .args .word .now) (s .pre .1 .1 .0))
 
 choose-requires : tie.Need-choose-requires
 choose-requires c κs = search needs
@@ -26,7 +27,8 @@ same-length c = search needs
 returns : tie.Need-returns
 returns c =
     let s = c .before .before .before .before .before .before .before .before .before in
-    let none = none-obeyed (s .args .word .now) (s .args .len) (s .pre .1 .1 .0) (groupRules (s .args .group)) (ap picked (sym (c .if1 .taken)) ∙ c .before .choose .ensures .0) in
+    let none = none-obeyed (s .args .word .now) (s .args .len) (s .pre .1 .1 .0) (groupRules (s .args .group))
+    (ap picked (sym (c .if1 .taken)) ∙ c .before .choose .ensures .0) in
     (sym (ap (λ (r : Result). r .word) none), (s .pre .1 .1 .0, sym (ap (λ (r : Result). r .opened) none)))
 
 size-requires : tie.Need-size-requires
@@ -47,9 +49,11 @@ obey-requires c κs =
     let place = s .args .word .now in
     let rule = c .before .before .before .choose .result in
     let known : rule < 62 = omega (arith, c .before .before .before .choose .ensures .1, c .before .before .if1 .left) in
-    let gave = one-obeyed place (s .args .len) (s .pre .1 .1 .0) (groupRules (s .args .group)) rule known (c .before .before .before .choose .ensures .0) in
+    let gave = one-obeyed place (s .args .len) (s .pre .1 .1 .0) (groupRules (s .args .group)) rule known
+    (c .before .before .before .choose .ensures .0) in
     let part : s .args .len - c .before .size .result ≡ s .args .len - length (ruleAt rule .ending) = omega (arith, c .before .size .ensures) in
-    let result : length (act (ruleAt rule .action) (take (s .args .len - c .before .size .result) place)) ≤ length place = rw (part, ← gave .word) (s .pre .1 .1 .1) in
+    let result : length (act (ruleAt rule .action) (take (s .args .len - c .before .size .result) place)) ≤ length place
+    = rw (part, ← gave .word) (s .pre .1 .1 .1) in
     ((known, omega arith), written-fits (ruleAt rule .action) place (s .args .len - c .before .size .result) (omega arith) result)
 
 same-length-2 : tie.Need-same-length-2
@@ -60,9 +64,16 @@ returns-2 c =
     let s = c .before .before .before .before .before .before .before .before .before .before .before .before .before .before in
     let place = s .args .word .now in
     let rule = c .before .before .before .before .before .before .choose .result in
-    let known : rule < 62 = omega (arith, c .before .before .before .before .before .before .choose .ensures .1, c .before .before .before .before .before .if1 .left) in
-    let gave = one-obeyed place (s .args .len) (s .pre .1 .1 .0) (groupRules (s .args .group)) rule known (c .before .before .before .before .before .before .choose .ensures .0) in
-    let part : s .args .len - c .before .before .before .before .size .result ≡ s .args .len - length (ruleAt rule .ending) = omega (arith, c .before .before .before .before .size .ensures) in (
+    let known : rule < 62 = omega (
+      arith,
+      c .before .before .before .before .before .before .choose .ensures .1,
+      c .before .before .before .before .before .if1 .left,
+    ) in
+    let gave = one-obeyed place (s .args .len) (s .pre .1 .1 .0) (groupRules (s .args .group)) rule known
+    (c .before .before .before .before .before .before .choose .ensures .0) in
+    let part : s .args .len - c .before .before .before .before .size .result
+    ≡ s .args .len - length (ruleAt rule .ending) = omega
+    (arith, c .before .before .before .before .size .ensures) in (
       c .before .before .obey .ensures .0 ∙ ap (λ (k : ℕ). act (ruleAt rule .action) (take k place)) part ∙ sym (gave .word),
       (c .before .before .obey .ensures .1 .0, c .before .before .obey .ensures .1 .1 ∙ sym (gave .opened)),
     )

@@ -36,13 +36,15 @@ slice-aggregate-result : tie.Need-slice-aggregate-result
 slice-aggregate-result c = search needs
 
 returns : tie.Need-returns
-returns c = let known = c .before .if1 .taken in let args = c .before .before .before .args in nothing-there (args .sheet .now) (args .at) (omega arith)
+returns c = let known = c .before .if1 .taken in let args = c .before .before .before .args in nothing-there
+    (args .sheet .now) (args .at) (omega arith)
 
 slice-aggregate-result-2 : tie.Need-slice-aggregate-result-2
 slice-aggregate-result-2 c = search needs
 
 returns-2 : tie.Need-returns-2
-returns-2 c = let known = c .before .if2 .taken in let args = c .before .before .before .before .args in nothing-there (args .sheet .now) (args .at) (omega arith)
+returns-2 c = let known = c .before .if2 .taken in let args = c .before .before .before .before .args in nothing-there
+    (args .sheet .now) (args .at) (omega arith)
 
 add-wide : tie.Need-add-wide
 add-wide c = search needs

@@ -84,7 +84,8 @@ returns c =
     let turn = c .before .loop in
     let none = none-left (c .before .before .ending-at .result .now) (drop (turn .place) (args .sheet .now)) (turn .left) (c .loop-test .left) in
     let all = turn .inv in
-    let so : turn .longest ≡ shared (c .before .before .ending-at .result .now) (tailsIn (args .count) (drop (args .first) (args .sheet .now))) = omega arith in
+    let so : turn .longest ≡ shared (c .before .before .ending-at .result .now) (tailsIn (args .count) (drop
+    (args .first) (args .sheet .now))) = omega arith in
     so ∙ ap (λ (e : List ℕ). shared e (tailsIn (args .count) (drop (args .first) (args .sheet .now)))) (c .before .before .ending-at .ensures)
 
 pub longest-shared-spec : {M : Type 1} → statement M

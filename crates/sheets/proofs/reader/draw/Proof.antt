@@ -157,7 +157,8 @@ module _ {M : Type 1} (𝓤 : URA M) (H : Heap 𝓤) (A : Atoms 𝓤) (W : Given
       qed W ((‵ (flft κ q) ⊛ ‵ ftrue) ∷ ‵ (owns (ShrSlice (named 0) κ u8 ∷ usize ∷ []) (sheet, (at, tt)) values) ∷ []) ∵
       move ! (1 ∷ []) $ fsplit ! $ use1 W (‵ Own ⊛ ‵ Own) (shr-slice-copy 𝓤 H A W (named 0) κ u8 .twice sheet (slice ∷ [])) $ split ! $
       move ! (0 ∷ 2 ∷ []) $ fjoin ! $ move ! (2 ∷ 0 ∷ []) $
-      use2 W (raw (Made 𝓤 H A mem run .pre making)) (qed W ((‵ (flft κ q) ⊛ ‵ ftrue) ∷ ‵ (owns (ShrSlice (named 0) κ u8 ∷ usize ∷ []) (sheet, (at, tt)) values) ∷ []) ∵ join ! $ frame ! $ done !) $
+      use2 W (raw (Made 𝓤 H A mem run .pre making)) (qed W ((‵ (flft κ q) ⊛ ‵ ftrue) ∷ ‵ (owns (ShrSlice
+      (named 0) κ u8 ∷ usize ∷ []) (sheet, (at, tt)) values) ∷ []) ∵ join ! $ frame ! $ done !) $
       frame ! $ done !
 
   -- what `made` ensures of its reader
@@ -195,7 +196,19 @@ module _ {M : Type 1} (𝓤 : URA M) (H : Heap 𝓤) (A : Atoms 𝓤) (W : Given
       → ent 𝓤 (⋆ 𝓤 H A (‵ (drawn.the-row .own one (u ∷ [])) ∷ (‵ (flft κ q) ⊛ ‵ ftrue) ∷ ‵ Own ∷ [])) (Post u)
   exits one u is =
       qed W (‵ (drawn.the-row .own one (u ∷ [])) ∷ (‵ (flft κ q) ⊛ ‵ ftrue) ∷ ‵ Own ∷ []) ∵
-      suffices ! _ (ends-at 𝓤 H A draw.ended stayed (draw.clauses 𝓤 H A mem run) W (((κ, tt), (q, tt), tt, (sheet, (at, tt)), values), tt) u one (tt, (tt, tt)) (tt, (tt, tt))) $
+      suffices ! _ (ends-at 𝓤 H A draw.ended stayed (draw.clauses 𝓤 H A mem run) W (
+        (
+          (κ, tt),
+          (q, tt),
+          tt,
+          (
+            sheet,
+            (at, tt),
+          ),
+          values,
+        ),
+        tt,
+      ) u one (tt, (tt, tt)) (tt, (tt, tt))) $
       says ! is $ move ! (1 ∷ []) $ frame ! $
       -- [the record; what the sheet owns]: the place's facts are made anew
       nothing ! $ owned ! usize (Is usize) (uint-makes 𝓤 H A W w64) at _ (refl, fits) $ fjoin ! $ move ! (2 ∷ 0 ∷ []) $ fjoin ! $ frame ! $ done !
@@ -205,20 +218,30 @@ module _ {M : Type 1} (𝓤 : URA M) (H : Heap 𝓤) (A : Atoms 𝓤) (W : Given
     walk : Is (ShrSlice (named 0) κ u8) sheet (slice ∷ [])
         → ent 𝓤 (onEntry 𝓤 H A draw.signature (κ, tt) (q, tt) (sheet, (at, tt)) values) (WpFn 𝓤 H C Λ code.function (slice ∷ vint w64 at ∷ []) Post)
     walk is =
-        qed W (raw (onEntry 𝓤 H A draw.signature (κ, tt) (q, tt) (sheet, (at, tt)) values) ∷ []) ∵ enter ! C Λ code.function (slice ∷ vint w64 at ∷ []) _ $
+        qed W (raw (onEntry 𝓤 H A draw.signature (κ, tt) (q, tt) (
+          sheet,
+          (at, tt),
+        ) values) ∷ []) ∵ enter ! C Λ code.function (slice ∷ vint w64 at ∷ []) _ $
         alloc1 ! (λ result. alloc1 ! (λ first. alloc1 ! (λ second. alloc1 ! (λ reader. alloc0 ! $ params1 ! $
-        pass1 ! (init ! 4 refl (shr-slice-lawful 𝓤 H A W (named 0) κ u8 .typed sheet (slice ∷ []) is .0)) $ pass1 ! (init ! 2 refl (tt, record { fits = fits })) $ pass0 ! $
+        pass1 ! (init ! 4 refl (shr-slice-lawful 𝓤 H A W (named 0) κ u8 .typed sheet (slice ∷ []) is .0)) $ pass1 !
+        (init ! 2 refl (tt, record { fits = fits })) $ pass0 ! $
         move ! (8 ∷ []) $ use1 W (raw (Made 𝓤 H A mem run .pre making) ⊛ ‵ Own) makes $ split ! $
-        calls-at ! fm (Made 𝓤 H A mem run) known-made making (and-then ! (load ! (from ! (stop !)) (look ! 6 refl)) (and-then ! (load ! (from ! (stop !)) (look ! 4 refl)) (no-more !))) (λ u.
-        use1 W (later (some (λ (r : Reader). ((‵ (flft κ q) ⊛ ‵ ftrue) ⊛ ‵ (Held (κ, tt) .own r (u ∷ []))) ⊛ raw (ensured 𝓤 H A made.ended (made.clauses 𝓤 H A mem run) (κ, tt) (sheet, (at, tt)) tt r)))) (id⊢ 𝓤 _) $ await ! tt $ pick ! (λ r.
+        calls-at ! fm (Made 𝓤 H A mem run) known-made making (and-then ! (load ! (from ! (stop !)) (look ! 6 refl))
+        (and-then ! (load ! (from ! (stop !)) (look ! 4 refl)) (no-more !))) (λ u.
+        use1 W (later (some (λ (r : Reader). ((‵ (flft κ q) ⊛ ‵ ftrue) ⊛ ‵ (Held (κ, tt) .own r (u ∷ []))) ⊛ raw
+        (ensured 𝓤 H A made.ended (made.clauses 𝓤 H A mem run) (κ, tt) (sheet, (at, tt)) tt r))))
+        (id⊢ 𝓤 _) $ await ! tt $ pick ! (λ r.
         split ! $ move ! (1 ∷ []) $ use1 W (raw (fact 𝓤 (IsMade r))) (made-said r) $ heard ! (IsMade r) (λ is-made. split ! $ move ! (1 ∷ []) $
         -- [what the reader owns; the token; what the sheet owns; room for the reader; the other locals]
         peeks ! (Held (κ, tt)) (Is (Held (κ, tt))) (shows 𝓤 H A (Held (κ, tt))) r (u ∷ []) (λ fine.
         land ! (from ! (stop !)) (init ! 3 refl (LL.lawful (holder.the-type local) (readers.the-laws local) 𝓤 H A W .typed r _ fine .0)) $
         use2 W (raw (Next 𝓤 H A mem run .pre (drawing r u))) (draws r u) $
         calls-at ! fm (Next 𝓤 H A mem run) known-next (drawing r u) (and-then ! (load ! (from ! (stop !)) (look ! 2 refl)) (no-more !)) (λ w.
-        use1 W (later (some (λ (one : Record). ((‵ (flft κ q) ⊛ ‵ ftrue) ⊛ ‵ (drawn.the-row .own one (w ∷ []))) ⊛ raw (ensured 𝓤 H A next.ended (next.clauses 𝓤 H A mem run) (κ, tt) (r, tt) tt one)))) (id⊢ 𝓤 _) $ await ! tt $ pick ! (λ one.
-        split ! $ move ! (1 ∷ []) $ use1 W (raw (fact 𝓤 (Drawn r one))) (next-said r one) $ heard ! (Drawn r one) (λ is-drawn. split ! $ move ! (1 ∷ []) $
+        use1 W (later (some (λ (one : Record). ((‵ (flft κ q) ⊛ ‵ ftrue) ⊛ ‵ (drawn.the-row .own one (w ∷ []))) ⊛ raw
+        (ensured 𝓤 H A next.ended (next.clauses 𝓤 H A mem run) (κ, tt) (r, tt) tt one))))
+        (id⊢ 𝓤 _) $ await ! tt $ pick ! (λ one.
+        split ! $ move ! (1 ∷ []) $ use1 W (raw (fact 𝓤 (Drawn r one))) (next-said r one) $ heard ! (Drawn r one)
+        (λ is-drawn. split ! $ move ! (1 ∷ []) $
         -- [the record; the token; what the sheet owns; the four locals]
         peeks ! drawn.the-row (Is drawn.the-row) (shows 𝓤 H A drawn.the-row) one (w ∷ []) (λ fine′.
         land ! (from ! (stop !)) (init ! 9 refl (EL.lawful drawn.the-type records.the-laws 𝓤 H A W tt .typed one _ fine′ .0)) $
@@ -233,7 +256,8 @@ module _ {M : Type 1} (𝓤 : URA M) (H : Heap 𝓤) (A : Atoms 𝓤) (W : Given
       walked 𝓤 H A draw.ended stayed (draw.clauses 𝓤 H A mem run) (WpFn 𝓤 H C Λ code.function)
       (λ κs. (slice-vals, (uint-vals w64, tt)))
       (λ κs. (shr-slice-tells (named 0) (κs .0) u8, (uint-tells w64, tt)))
-      (λ κs qs bounds a g are. via 𝓤 _ (fst∗ 𝓤 _ (emp 𝓤)) (walk 𝓤 H A W mem run (κs .0) (qs .0) (a .0) (a .1 .0) (are .1 .0 .1) C Λ fm known-made known-next (are .0)))
+      (λ κs qs bounds a g are. via 𝓤 _ (fst∗ 𝓤 _ (emp 𝓤)) (walk 𝓤 H A W mem run (κs .0) (qs .0) (a .0) (a .1 .0)
+      (are .1 .0 .1) C Λ fm known-made known-next (are .0)))
 
 meets : {M : Type 1} (𝓤 : URA M) (H : Heap 𝓤) (A : Atoms 𝓤) (W : Given 𝓤 H A) (mem : Memory → SProp 𝓤) (run : Routine → Fun 𝓤) (𝓣 : Tables 𝓤 H)
     → Triple 𝓤 (𝓣 .C #made) (Made 𝓤 H A mem run) → Triple 𝓤 (𝓣 .C #next) (Next 𝓤 H A mem run)

@@ -80,13 +80,25 @@ module _ {M : Type 1} (𝓤 : URA M) (H : Heap 𝓤) (A : Atoms 𝓤) (W : Given
   exits : ent 𝓤 (onEntry 𝓤 H A held.signature (κ, tt) (q, tt) (reader, tt) (value ∷ [], tt)) (Post sheet)
   exits =
       qed W ((‵ (flft κ q) ⊛ ‵ ftrue) ∷ ‵ (owns (Held (κ, tt) ∷ []) (reader, tt) (value ∷ [], tt)) ∷ []) ∵
-      suffices ! _ (ends-at 𝓤 H A held.ended stayed (held.clauses 𝓤 H A mem run) W (((κ, tt), (q, tt), tt, (reader, tt), (value ∷ [], tt)), tt) sheet (reader .sheet) (tt, tt) (tt, tt)) $
+      suffices ! _ (ends-at 𝓤 H A held.ended stayed (held.clauses 𝓤 H A mem run) W (
+        (
+          (κ, tt),
+          (q, tt),
+          tt,
+          (reader, tt),
+          (value ∷ [], tt),
+        ),
+        tt,
+      ) sheet (reader .sheet) (tt, tt) (tt, tt)) $
       says ! refl $ frame ! $ fsplit ! $
       use1 W (‵ Own ⊛ ‵ Own) (LL.copy (heldType (κ, tt)) (heldCopy (κ, tt)) 𝓤 H A W .twice reader (value ∷ [])) $ split ! $
       move ! (0 ∷ 2 ∷ []) $ fjoin ! $ frame ! $
       -- [what the reader owns]: the sheet's part is taken, and the rest is let go
-      use1 W (given (value ∷ [] ≡ value ∷ []) (‵ (all-own (heldType (κ, tt) .parts) (heldLaws (κ, tt)) fields))) (own-open 𝓤 H A W (heldType (κ, tt)) (heldLaws (κ, tt)) fields value) $
-      learn ! (λ _. use1 W (‵ (ownAt (heldType (κ, tt) .parts) (heldLaws (κ, tt)) 0 (reader .sheet)) ⊛ ‵ (rest (heldType (κ, tt) .parts) (heldLaws (κ, tt)) 0 fields)) (own-out 𝓤 H A W (heldType (κ, tt) .parts) (heldLaws (κ, tt)) 0 fields) $
+      use1 W (given (value ∷ [] ≡ value ∷ []) (‵ (all-own (heldType (κ, tt) .parts) (heldLaws (κ, tt)) fields)))
+      (own-open 𝓤 H A W (heldType (κ, tt)) (heldLaws (κ, tt)) fields value) $
+      learn ! (λ _. use1 W (‵ (ownAt (heldType (κ, tt) .parts) (heldLaws (κ, tt)) 0 (reader .sheet)) ⊛ ‵ (rest (heldType
+      (κ, tt) .parts) (heldLaws (κ, tt)) 0 fields)) (own-out 𝓤 H A W (heldType (κ, tt) .parts) (heldLaws
+      (κ, tt)) 0 fields) $
       split ! $ move ! (1 ∷ []) $ drop ! $ done !)
 
   module _ (C : Calls 𝓤 H) (Λ : Loops 𝓤 H) where
@@ -94,8 +106,10 @@ module _ {M : Type 1} (𝓤 : URA M) (H : Heap 𝓤) (A : Atoms 𝓤) (W : Given
         → ent 𝓤 (onEntry 𝓤 H A held.signature (κ, tt) (q, tt) (reader, tt) (value ∷ [], tt)) (WpFn 𝓤 H C Λ code.function (value ∷ []) Post)
     walk typed =
         qed W ((‵ (flft κ q) ⊛ ‵ ftrue) ∷ ‵ (owns (Held (κ, tt) ∷ []) (reader, tt) (value ∷ [], tt)) ∷ []) ∵
-        enter ! C Λ code.function (value ∷ []) _ $ alloc1 ! (λ result. alloc1 ! (λ taken. alloc0 ! $ params1 ! $ pass1 ! (init ! 0 refl typed) $ pass0 ! $
-        assigns ! (of-opd ! (load ! (from ! (fld ! refl (stop !))) (look-in ! 0 (sub ! 0 refl (whole !))))) (from ! (stop !)) (init ! 2 refl (tt, typed .1 .0)) $
+        enter ! C Λ code.function (value ∷ []) _ $ alloc1 ! (λ result. alloc1 ! (λ taken. alloc0 ! $ params1 ! $ pass1 !
+        (init ! 0 refl typed) $ pass0 ! $
+        assigns ! (of-opd ! (load ! (from ! (fld ! refl (stop !))) (look-in ! 0 (sub ! 0 refl (whole !))))) (from !
+        (stop !)) (init ! 2 refl (tt, typed .1 .0)) $
         returns ! (look ! 2 refl) $ forget ! 0 refl $ forget ! 2 refl $ move ! (2 ∷ 3 ∷ []) $ free1 ! $ free1 ! $ free0 ! $ by ! exits))
 
 module _ {M : Type 1} (𝓤 : URA M) (H : Heap 𝓤) (A : Atoms 𝓤) (W : Given 𝓤 H A) (mem : Memory → SProp 𝓤) (run : Routine → Fun 𝓤) where
@@ -104,7 +118,8 @@ module _ {M : Type 1} (𝓤 : URA M) (H : Heap 𝓤) (A : Atoms 𝓤) (W : Given
       walked 𝓤 H A held.ended stayed (held.clauses 𝓤 H A mem run) (WpFn 𝓤 H C Λ code.function)
       (λ κs. (LL.vals (heldType κs) (heldLaws κs), tt))
       (λ κs. (LL.tells (heldType κs) (heldLaws κs), tt))
-      (λ κs qs bounds a g are. via 𝓤 _ (fst∗ 𝓤 _ (emp 𝓤)) (walk 𝓤 H A W mem run (κs .0) (qs .0) (a .0) C Λ (LL.lawful (heldType κs) (heldLaws κs) 𝓤 H A W .typed (a .0) _ (are .0) .0)))
+      (λ κs qs bounds a g are. via 𝓤 _ (fst∗ 𝓤 _ (emp 𝓤)) (walk 𝓤 H A W mem run (κs .0) (qs .0) (a .0) C Λ (LL.lawful
+      (heldType κs) (heldLaws κs) 𝓤 H A W .typed (a .0) _ (are .0) .0)))
 
 meets : {M : Type 1} (𝓤 : URA M) (H : Heap 𝓤) (A : Atoms 𝓤) → Given 𝓤 H A → (mem : Memory → SProp 𝓤) (run : Routine → Fun 𝓤) (𝓣 : Tables 𝓤 H)
     → Meets 𝓤 H A held.signature (WpFn 𝓤 H (𝓣 .C) (𝓣 .Λ) code.function) (held.spec 𝓤 H A mem run)

@@ -97,7 +97,19 @@ module _ {M : Type 1} (𝓤 : URA M) (H : Heap 𝓤) (A : Atoms 𝓤) (W : Given
   exits : ent 𝓤 (onEntry 𝓤 H A made.signature (κ, tt) (q, tt) (sheet, (at, tt)) values) (Post (readers.lowered reader))
   exits =
       qed W ((‵ (flft κ q) ⊛ ‵ ftrue) ∷ ‵ (owns (ShrSlice (named 0) κ u8 ∷ usize ∷ []) (sheet, (at, tt)) values) ∷ []) ∵
-      suffices ! _ (ends-at 𝓤 H A made.ended stayed (made.clauses 𝓤 H A mem run) W (((κ, tt), (q, tt), tt, (sheet, (at, tt)), values), tt) (readers.lowered reader) reader (tt, (tt, tt)) (tt, (tt, tt))) $
+      suffices ! _ (ends-at 𝓤 H A made.ended stayed (made.clauses 𝓤 H A mem run) W (
+        (
+          (κ, tt),
+          (q, tt),
+          tt,
+          (
+            sheet,
+            (at, tt),
+          ),
+          values,
+        ),
+        tt,
+      ) (readers.lowered reader) reader (tt, (tt, tt)) (tt, (tt, tt))) $
       says ! (refl, refl) $ frame ! $ fsplit ! $
       use1 W (‵ Own ⊛ ‵ Own) (shr-slice-copy 𝓤 H A W (named 0) κ u8 .twice sheet (slice ∷ [])) $ split ! $ move ! (0 ∷ 2 ∷ []) $ fjoin ! $ frame ! $
       -- [what the sheet owns]: with the place's facts it is what the reader owns
@@ -110,9 +122,19 @@ module _ {M : Type 1} (𝓤 : URA M) (H : Heap 𝓤) (A : Atoms 𝓤) (W : Given
     walk is =
         qed W (raw (onEntry 𝓤 H A made.signature (κ, tt) (q, tt) (sheet, (at, tt)) values) ∷ []) ∵
         enter ! C Λ code.function (slice ∷ vint w64 at ∷ []) _ $ alloc1 ! (λ result. alloc1 ! (λ first. alloc1 ! (λ second. alloc0 ! $ params1 ! $
-        pass1 ! (init ! 2 refl (shr-slice-lawful 𝓤 H A W (named 0) κ u8 .typed sheet (slice ∷ []) is .0)) $ pass1 ! (init ! 0 refl (tt, record { fits = fits })) $ pass0 ! $
-        assigns ! (agg ! (and-then ! (load ! (from ! (stop !)) (look ! 2 refl)) (and-then ! (load ! (from ! (stop !)) (look ! 0 refl)) (no-more !)))) (from ! (stop !)) (init ! 4 refl (tt, (shr-slice-lawful 𝓤 H A W (named 0) κ u8 .typed sheet (slice ∷ []) is .0 .1, (record { fits = fits }, tt)))) $
-        returns ! (look ! 4 refl) $ forget ! 0 refl $ forget ! 2 refl $ forget ! 4 refl $ move ! (4 ∷ 5 ∷ []) $ free1 ! $ move ! (2 ∷ 3 ∷ []) $ free1 ! $ free1 ! $ free0 ! $ by ! exits)))
+        pass1 ! (init ! 2 refl (shr-slice-lawful 𝓤 H A W (named 0) κ u8 .typed sheet (slice ∷ []) is .0)) $ pass1 !
+        (init ! 0 refl (tt, record { fits = fits })) $ pass0 ! $
+        assigns ! (agg ! (and-then ! (load ! (from ! (stop !)) (look ! 2 refl)) (and-then ! (load ! (from ! (stop !))
+        (look ! 0 refl)) (no-more !)))) (from ! (stop !)) (init ! 4 refl (
+          tt,
+          (
+            shr-slice-lawful 𝓤 H A W
+                (named 0) κ u8 .typed sheet (slice ∷ []) is .0 .1,
+            (record { fits = fits }, tt),
+          ),
+        )) $
+        returns ! (look ! 4 refl) $ forget ! 0 refl $ forget ! 2 refl $ forget ! 4 refl $ move !
+        (4 ∷ 5 ∷ []) $ free1 ! $ move ! (2 ∷ 3 ∷ []) $ free1 ! $ free1 ! $ free0 ! $ by ! exits)))
 
 module _ {M : Type 1} (𝓤 : URA M) (H : Heap 𝓤) (A : Atoms 𝓤) (W : Given 𝓤 H A) (mem : Memory → SProp 𝓤) (run : Routine → Fun 𝓤) where
   walks : (C : Calls 𝓤 H) (Λ : Loops 𝓤 H) → Walks 𝓤 H A made.ended stayed (WpFn 𝓤 H C Λ code.function) (made.clauses 𝓤 H A mem run)

@@ -153,10 +153,14 @@ module _ {M : Type 1} (𝓤 : URA M) (H : Heap 𝓤) (A : Atoms 𝓤) (W : Given
       qed W ((‵ (flft κ q) ⊛ ‵ ftrue) ∷ ‵ (owns (Held (κ, tt) ∷ []) (reader, tt) (value ∷ [], tt)) ∷ []) ∵
       move ! (1 ∷ []) $ fsplit ! $ move ! (1 ∷ []) $ drop ! $
       use1 W (‵ Own ⊛ ‵ Own) (LL.copy (heldType (κ, tt)) (heldCopy (κ, tt)) 𝓤 H A W .twice reader (value ∷ [])) $ split ! $
-      use1 W (given (value ∷ [] ≡ value ∷ []) (‵ (all-own (heldType (κ, tt) .parts) (heldLaws (κ, tt)) fields))) (own-open 𝓤 H A W (heldType (κ, tt)) (heldLaws (κ, tt)) fields value) $
-      learn ! (λ _. use1 W (‵ (ownAt (heldType (κ, tt) .parts) (heldLaws (κ, tt)) 0 (reader .sheet)) ⊛ ‵ (rest (heldType (κ, tt) .parts) (heldLaws (κ, tt)) 0 fields)) (own-out 𝓤 H A W (heldType (κ, tt) .parts) (heldLaws (κ, tt)) 0 fields) $ split ! $
+      use1 W (given (value ∷ [] ≡ value ∷ []) (‵ (all-own (heldType (κ, tt) .parts) (heldLaws (κ, tt)) fields)))
+      (own-open 𝓤 H A W (heldType (κ, tt)) (heldLaws (κ, tt)) fields value) $
+      learn ! (λ _. use1 W (‵ (ownAt (heldType (κ, tt) .parts) (heldLaws (κ, tt)) 0 (reader .sheet)) ⊛ ‵ (rest (heldType
+      (κ, tt) .parts) (heldLaws (κ, tt)) 0 fields)) (own-out 𝓤 H A W (heldType (κ, tt) .parts) (heldLaws
+      (κ, tt)) 0 fields) $ split ! $
       -- [what the sheet owns; what the place owns; what the reader owns; the token]
-      move ! (1 ∷ []) $ drop ! $ nothing ! $ owned ! usize (Is usize) (uint-makes 𝓤 H A W w64) (reader .at) _ (refl, fits) $ fjoin ! $ move ! (1 ∷ 0 ∷ []) $ fjoin ! $
+      move ! (1 ∷ []) $ drop ! $ nothing ! $ owned ! usize (Is usize) (uint-makes 𝓤 H A W w64) (reader .at) _
+      (refl, fits) $ fjoin ! $ move ! (1 ∷ 0 ∷ []) $ fjoin ! $
       move ! (2 ∷ 0 ∷ []) $ use2 W (raw (RecordAt 𝓤 H A mem run .pre call)) asked $ frame ! $ done !)
 
   -- of what `record_at` ensures, the clause: it changes nothing that was lent
@@ -167,7 +171,16 @@ module _ {M : Type 1} (𝓤 : URA M) (H : Heap 𝓤) (A : Atoms 𝓤) (W : Given
       → ent 𝓤 (⋆ 𝓤 H A (‵ (drawn.the-row .own r (u ∷ [])) ∷ (‵ (flft κ q) ⊛ ‵ ftrue) ∷ ‵ Own ∷ [])) (Post u)
   exits r u is =
       qed W (‵ (drawn.the-row .own r (u ∷ [])) ∷ (‵ (flft κ q) ⊛ ‵ ftrue) ∷ ‵ Own ∷ []) ∵
-      suffices ! _ (ends-at 𝓤 H A next.ended stayed (next.clauses 𝓤 H A mem run) W (((κ, tt), (q, tt), tt, (reader, tt), (value ∷ [], tt)), tt) u r (tt, tt) (tt, tt)) $
+      suffices ! _ (ends-at 𝓤 H A next.ended stayed (next.clauses 𝓤 H A mem run) W (
+        (
+          (κ, tt),
+          (q, tt),
+          tt,
+          (reader, tt),
+          (value ∷ [], tt),
+        ),
+        tt,
+      ) u r (tt, tt) (tt, tt)) $
       says ! is $ move ! (1 ∷ []) $ frame ! $ nothing ! $ move ! (2 ∷ 0 ∷ []) $ fjoin ! $ frame ! $ done !
 
   module _ (C : Calls 𝓤 H) (Λ : Loops 𝓤 H) (fm : FmC 𝓤 H (W .laws) C) (known : Triple 𝓤 (C #record-at) (RecordAt 𝓤 H A mem run)) where
@@ -176,17 +189,23 @@ module _ {M : Type 1} (𝓤 : URA M) (H : Heap 𝓤) (A : Atoms 𝓤) (W : Given
     walk typed =
         qed W (raw (onEntry 𝓤 H A next.signature (κ, tt) (q, tt) (reader, tt) (value ∷ [], tt)) ∷ []) ∵ enter ! C Λ code.function (value ∷ []) _ $
         alloc1 ! (λ result. alloc1 ! (λ taken. alloc1 ! (λ first. alloc1 ! (λ second. alloc0 ! $ params1 ! $ pass1 ! (init ! 4 refl typed) $ pass0 ! $
-        assigns ! (of-opd ! (load ! (from ! (fld ! refl (stop !))) (look-in ! 4 (sub ! 0 refl (whole !))))) (from ! (stop !)) (init ! 2 refl (tt, typed .1 .0)) $
-        assigns ! (of-opd ! (load ! (from ! (fld ! refl (stop !))) (look-in ! 4 (sub ! 1 refl (whole !))))) (from ! (stop !)) (init ! 0 refl (tt, typed .1 .1 .0)) $
+        assigns ! (of-opd ! (load ! (from ! (fld ! refl (stop !))) (look-in ! 4 (sub ! 0 refl (whole !))))) (from !
+        (stop !)) (init ! 2 refl (tt, typed .1 .0)) $
+        assigns ! (of-opd ! (load ! (from ! (fld ! refl (stop !))) (look-in ! 4 (sub ! 1 refl (whole !))))) (from !
+        (stop !)) (init ! 0 refl (tt, typed .1 .1 .0)) $
         move ! (8 ∷ []) $ use1 W (raw (RecordAt 𝓤 H A mem run .pre call) ⊛ ‵ Own) (apart (typed .1 .1 .0 .fits)) $ split ! $
-        calls-at ! fm (RecordAt 𝓤 H A mem run) known call (and-then ! (load ! (from ! (stop !)) (look ! 4 refl)) (and-then ! (load ! (from ! (stop !)) (look ! 2 refl)) (no-more !))) (λ u.
-        use1 W (later (some (λ (r : Record). ((‵ (flft κ q) ⊛ ‵ ftrue) ⊛ ‵ (drawn.the-row .own r (u ∷ []))) ⊛ raw (ensured 𝓤 H A at-place.ended (at-place.clauses 𝓤 H A mem run) (κ, tt) fields tt r)))) (id⊢ 𝓤 _) $ await ! tt $ pick ! (λ r.
+        calls-at ! fm (RecordAt 𝓤 H A mem run) known call (and-then ! (load ! (from ! (stop !)) (look ! 4 refl))
+        (and-then ! (load ! (from ! (stop !)) (look ! 2 refl)) (no-more !))) (λ u.
+        use1 W (later (some (λ (r : Record). ((‵ (flft κ q) ⊛ ‵ ftrue) ⊛ ‵ (drawn.the-row .own r (u ∷ []))) ⊛ raw
+        (ensured 𝓤 H A at-place.ended (at-place.clauses 𝓤 H A mem run) (κ, tt) fields tt r))))
+        (id⊢ 𝓤 _) $ await ! tt $ pick ! (λ r.
         split ! $ move ! (1 ∷ []) $ use1 W (raw (fact 𝓤 (r ≡ found))) (said r) $ heard ! (r ≡ found) (λ is. split ! $ move ! (1 ∷ []) $
         -- [the record; the token; what the reader owns; the four locals]
         peeks ! drawn.the-row (Is drawn.the-row) (shows 𝓤 H A drawn.the-row) r (u ∷ []) (λ fine.
         land ! (from ! (stop !)) (init ! 9 refl (EL.lawful drawn.the-type records.the-laws 𝓤 H A W tt .typed r _ fine .0)) $
         returns ! (look ! 9 refl) $ forget ! 3 refl $ forget ! 5 refl $ forget ! 7 refl $ forget ! 9 refl $
-        move ! (9 ∷ 10 ∷ []) $ free1 ! $ move ! (7 ∷ 8 ∷ []) $ free1 ! $ move ! (5 ∷ 6 ∷ []) $ free1 ! $ move ! (3 ∷ 4 ∷ []) $ free1 ! $ free0 ! $ by ! (exits r u is)))))))))
+        move ! (9 ∷ 10 ∷ []) $ free1 ! $ move ! (7 ∷ 8 ∷ []) $ free1 ! $ move ! (5 ∷ 6 ∷ []) $ free1 ! $ move !
+        (3 ∷ 4 ∷ []) $ free1 ! $ free0 ! $ by ! (exits r u is)))))))))
 
 module _ {M : Type 1} (𝓤 : URA M) (H : Heap 𝓤) (A : Atoms 𝓤) (W : Given 𝓤 H A) (mem : Memory → SProp 𝓤) (run : Routine → Fun 𝓤) where
   walks : (C : Calls 𝓤 H) (Λ : Loops 𝓤 H) → FmC 𝓤 H (W .laws) C → Triple 𝓤 (C #record-at) (RecordAt 𝓤 H A mem run)
@@ -195,7 +214,8 @@ module _ {M : Type 1} (𝓤 : URA M) (H : Heap 𝓤) (A : Atoms 𝓤) (W : Given
       walked 𝓤 H A next.ended stayed (next.clauses 𝓤 H A mem run) (WpFn 𝓤 H C Λ code.function)
       (λ κs. (LL.vals (heldType κs) (heldLaws κs), tt))
       (λ κs. (LL.tells (heldType κs) (heldLaws κs), tt))
-      (λ κs qs bounds a g are. via 𝓤 _ (fst∗ 𝓤 _ (emp 𝓤)) (walk 𝓤 H A W mem run (κs .0) (qs .0) (a .0) C Λ fm known (LL.lawful (heldType κs) (heldLaws κs) 𝓤 H A W .typed (a .0) _ (are .0) .0)))
+      (λ κs qs bounds a g are. via 𝓤 _ (fst∗ 𝓤 _ (emp 𝓤)) (walk 𝓤 H A W mem run (κs .0) (qs .0) (a .0) C Λ fm known
+      (LL.lawful (heldType κs) (heldLaws κs) 𝓤 H A W .typed (a .0) _ (are .0) .0)))
 
 meets : {M : Type 1} (𝓤 : URA M) (H : Heap 𝓤) (A : Atoms 𝓤) (W : Given 𝓤 H A) (mem : Memory → SProp 𝓤) (run : Routine → Fun 𝓤) (𝓣 : Tables 𝓤 H)
     → Triple 𝓤 (𝓣 .C #record-at) (RecordAt 𝓤 H A mem run)
@@ -216,4 +236,5 @@ next-spec 𝓤 H 𝓜 𝓖 𝓡 =
     code.function
     (code.unfolded 𝓤 H 𝓜 𝓡)
     (meets 𝓤 H (𝓖 .A) (givenOf 𝓤 H 𝓜 𝓖) (𝓜 .mem) (𝓡 .run) (tablesOf 𝓤 H 𝓜 (tables 𝓤 H 𝓜 𝓡 code.env))
-    (cited 𝓤 H (RecordAt 𝓤 H (𝓖 .A) (𝓜 .mem) (𝓡 .run)) 𝓜 𝓡 code.env #record-at at-place-symbol.routine code.calls-sheets·records·record-at (at-place-met.met 𝓤 H 𝓜 𝓖 𝓡)))
+    (cited 𝓤 H (RecordAt 𝓤 H (𝓖 .A) (𝓜 .mem) (𝓡 .run)) 𝓜 𝓡 code.env #record-at at-place-symbol.routine
+    code.calls-sheets·records·record-at (at-place-met.met 𝓤 H 𝓜 𝓖 𝓡)))

@@ -71,7 +71,16 @@ module _ {M : Type 1} (𝓤 : URA M) (H : Heap 𝓤) (A : Atoms 𝓤) (W : Given
       → ent 𝓤 (onEntry 𝓤 H A place.signature (κ, tt) (q, tt) (reader, tt) (value ∷ [], tt)) (Post (vint w64 (reader .at)))
   exits fits =
       qed W ((‵ (flft κ q) ⊛ ‵ ftrue) ∷ ‵ (owns (Held (κ, tt) ∷ []) (reader, tt) (value ∷ [], tt)) ∷ []) ∵
-      suffices ! _ (ends-at 𝓤 H A place.ended stayed (place.clauses 𝓤 H A mem run) W (((κ, tt), (q, tt), tt, (reader, tt), (value ∷ [], tt)), tt) (vint w64 (reader .at)) (reader .at) (tt, tt) (tt, tt)) $
+      suffices ! _ (ends-at 𝓤 H A place.ended stayed (place.clauses 𝓤 H A mem run) W (
+        (
+          (κ, tt),
+          (q, tt),
+          tt,
+          (reader, tt),
+          (value ∷ [], tt),
+        ),
+        tt,
+      ) (vint w64 (reader .at)) (reader .at) (tt, tt) (tt, tt)) $
       says ! refl $ frame ! $ frame ! $ owned ! usize (Is usize) (uint-makes 𝓤 H A W w64) (reader .at) _ (refl, fits) $ done !
 
   module _ (C : Calls 𝓤 H) (Λ : Loops 𝓤 H) where
@@ -81,7 +90,8 @@ module _ {M : Type 1} (𝓤 : URA M) (H : Heap 𝓤) (A : Atoms 𝓤) (W : Given
         qed W ((‵ (flft κ q) ⊛ ‵ ftrue) ∷ ‵ (owns (Held (κ, tt) ∷ []) (reader, tt) (value ∷ [], tt)) ∷ []) ∵
         enter ! C Λ code.function (value ∷ []) _ $ alloc1 ! (λ result. alloc1 ! (λ taken. alloc0 ! $ params1 ! $
         pass1 ! (init ! 0 refl (LL.lawful (heldType (κ, tt)) (heldLaws (κ, tt)) 𝓤 H A W .typed reader (value ∷ []) is .0)) $ pass0 ! $
-        assigns ! (of-opd ! (load ! (from ! (fld ! refl (stop !))) (look-in ! 0 (sub ! 1 refl (whole !))))) (from ! (stop !)) (init ! 2 refl (tt, record { fits = is .1 .1 .1 .0 .1 })) $
+        assigns ! (of-opd ! (load ! (from ! (fld ! refl (stop !))) (look-in ! 0 (sub ! 1 refl (whole !))))) (from !
+        (stop !)) (init ! 2 refl (tt, record { fits = is .1 .1 .1 .0 .1 })) $
         returns ! (look ! 2 refl) $ forget ! 0 refl $ forget ! 2 refl $ move ! (2 ∷ 3 ∷ []) $ free1 ! $ free1 ! $ free0 ! $
         by ! (exits (is .1 .1 .1 .0 .1))))
 

@@ -34,15 +34,42 @@ module _ (rest : List ℕ) (size number : ℕ) (size-is : size ≡ bodyLength re
 
   of-rule : (number ≡ 1 → ⊥) → number ≡ 2 → ruleRecord (take (4 + size - 4) (drop 4 rest)) ≡ recordIn rest
   unfolding recordIn cut byKind
-  of-rule not-one two = simp (le-ltb (length rest) 4 long, ← size-is, le-ltb (length rest - 4) size whole, ← kind-is, ne-eqb number 1 not-one, eq-eqb number 2 two, body-is)
+  of-rule not-one two = simp (
+    le-ltb (length rest) 4 long,
+    ← size-is,
+    le-ltb
+        (length rest - 4) size whole,
+    ← kind-is,
+    ne-eqb number 1 not-one,
+    eq-eqb number 2 two,
+    body-is,
+  )
 
   of-another-kind : (number ≡ 1 → ⊥) → (number ≡ 2 → ⊥) → (number ≡ 3 → ⊥) → Faulty ≡ recordIn rest
   unfolding recordIn cut byKind
-  of-another-kind not-one not-two not-three = simp (le-ltb (length rest) 4 long, ← size-is, le-ltb (length rest - 4) size whole, ← kind-is, ne-eqb number 1 not-one, ne-eqb number 2 not-two, ne-eqb number 3 not-three)
+  of-another-kind not-one not-two not-three = simp (
+    le-ltb (length rest) 4 long,
+    ← size-is,
+    le-ltb
+        (length rest - 4) size whole,
+    ← kind-is,
+    ne-eqb number 1 not-one,
+    ne-eqb number 2 not-two,
+    ne-eqb number 3 not-three,
+  )
 
   of-end : (number ≡ 1 → ⊥) → (number ≡ 2 → ⊥) → number ≡ 3 → endRecord rest ≡ recordIn rest
   unfolding recordIn cut byKind
-  of-end not-one not-two three = simp (le-ltb (length rest) 4 long, ← size-is, le-ltb (length rest - 4) size whole, ← kind-is, ne-eqb number 1 not-one, ne-eqb number 2 not-two, eq-eqb number 3 three)
+  of-end not-one not-two three = simp (
+    le-ltb (length rest) 4 long,
+    ← size-is,
+    le-ltb
+        (length rest - 4) size whole,
+    ← kind-is,
+    ne-eqb number 1 not-one,
+    ne-eqb number 2 not-two,
+    eq-eqb number 3 three,
+  )
 
 more-follows : (rest : List ℕ) → (length rest ≡ 4 → ⊥) → Faulty ≡ endRecord rest
 unfolding endRecord faultyEnd
@@ -78,7 +105,8 @@ sub-if2 c = search needs
 
 returns-2 : tie.Need-returns-2
 unfolding bodyLength number
-returns-2 c = no-body _ _ (c .before .before .before .before .pair .ensures) (c .before .before .before .before .before .before .before .if1 .left) (c .if2 .taken)
+returns-2 c = no-body _ _ (c .before .before .before .before .pair .ensures)
+    (c .before .before .before .before .before .before .before .if1 .left) (c .if2 .taken)
 
 add-end : tie.Need-add-end
 add-end c = search needs
@@ -100,7 +128,9 @@ unfolding bodyLength kind number
 returns-3 c =
     let whole = c .before .before .before in
     c .group-in .ensures
-    ∙ of-group _ _ _ (whole .before .before .before .before .pair .ensures) (whole .before .pair2 .ensures) (whole .before .before .before .before .before .before .before .if1 .left) (whole .if2 .left) (c .before .if3 .taken)
+    ∙ of-group _ _ _ (whole .before .before .before .before .pair .ensures) (whole .before .pair2 .ensures)
+    (whole .before .before .before .before .before .before .before .if1 .left) (whole .if2 .left)
+    (c .before .if3 .taken)
 
 rule-in-requires : tie.Need-rule-in-requires
 rule-in-requires c κs = search needs
@@ -110,27 +140,35 @@ unfolding bodyLength kind number
 returns-4 c =
     let whole = c .before .before .before .before in
     c .rule-in .ensures
-    ∙ of-rule _ _ _ (whole .before .before .before .before .pair .ensures) (whole .before .pair2 .ensures) (whole .before .before .before .before .before .before .before .if1 .left) (whole .if2 .left) (c .before .before .if3 .left) (c .before .if4 .taken)
+    ∙ of-rule _ _ _ (whole .before .before .before .before .pair .ensures) (whole .before .pair2 .ensures)
+    (whole .before .before .before .before .before .before .before .if1 .left) (whole .if2 .left)
+    (c .before .before .if3 .left) (c .before .if4 .taken)
 
 returns-5 : tie.Need-returns-5
 unfolding bodyLength kind number
 returns-5 c =
     let whole = c .before .before .before .before in
-    of-another-kind _ _ _ (whole .before .before .before .before .pair .ensures) (whole .before .pair2 .ensures) (whole .before .before .before .before .before .before .before .if1 .left) (whole .if2 .left) (c .before .before .if3 .left) (c .before .if4 .left) (c .if5 .taken)
+    of-another-kind _ _ _ (whole .before .before .before .before .pair .ensures) (whole .before .pair2 .ensures)
+    (whole .before .before .before .before .before .before .before .if1 .left) (whole .if2 .left)
+    (c .before .before .if3 .left) (c .before .if4 .left) (c .if5 .taken)
 
 returns-6 : tie.Need-returns-6
 unfolding bodyLength kind number
 returns-6 c =
     let whole = c .before .before .before .before .before in
     more-follows _ (c .if6 .taken)
-    ∙ of-end _ _ _ (whole .before .before .before .before .pair .ensures) (whole .before .pair2 .ensures) (whole .before .before .before .before .before .before .before .if1 .left) (whole .if2 .left) (c .before .before .before .if3 .left) (c .before .before .if4 .left) (c .before .if5 .left)
+    ∙ of-end _ _ _ (whole .before .before .before .before .pair .ensures) (whole .before .pair2 .ensures)
+    (whole .before .before .before .before .before .before .before .if1 .left) (whole .if2 .left)
+    (c .before .before .before .if3 .left) (c .before .before .if4 .left) (c .before .if5 .left)
 
 returns-7 : tie.Need-returns-7
 unfolding bodyLength kind number
 returns-7 c =
     let whole = c .before .before .before .before .before in
     nothing-follows _ (c .if6 .left)
-    ∙ of-end _ _ _ (whole .before .before .before .before .pair .ensures) (whole .before .pair2 .ensures) (whole .before .before .before .before .before .before .before .if1 .left) (whole .if2 .left) (c .before .before .before .if3 .left) (c .before .before .if4 .left) (c .before .if5 .left)
+    ∙ of-end _ _ _ (whole .before .before .before .before .pair .ensures) (whole .before .pair2 .ensures)
+    (whole .before .before .before .before .before .before .before .if1 .left) (whole .if2 .left)
+    (c .before .before .before .if3 .left) (c .before .before .if4 .left) (c .before .if5 .left)
 
 pub record-in-spec : {M : Type 1} → statement M
 record-in-spec =

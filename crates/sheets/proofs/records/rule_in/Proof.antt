@@ -62,7 +62,8 @@ unfolding faultyLetters
 letters-judged body n is = rw (s1-is body n is, s2-is body n is)
 
 action-judged : (body : List ℕ) (n : ℕ) → n ≡ endingLength body
-    → (eqb (actionNumber body) 1 && (not (eqb (condition body) 5 || eqb (condition body) 8) || not (eqb (length (s1 body n)) 0) || not (eqb (length (s2 body n)) 0))) ≡ faultyAction body
+    → (eqb (actionNumber body) 1 && (not (eqb (condition body) 5 || eqb (condition body) 8) || not (eqb (length
+    (s1 body n)) 0) || not (eqb (length (s2 body n)) 0))) ≡ faultyAction body
 unfolding faultyAction
 action-judged body n is = rw (s1-is body n is, s2-is body n is)
 
@@ -111,7 +112,8 @@ above-requires : tie.Need-above-requires
 above-requires c κs = search needs
 
 -- what the test of the numbers says
-numbers : (c : tie.After-above) → c .above .result ≡ faultyNumbers (c .before .before .before .before .before .before .before .before .args .body .now)
+numbers : (c : tie.After-above) → c .above .result ≡ faultyNumbers
+    (c .before .before .before .before .before .before .before .before .args .body .now)
 numbers c = c .above .ensures ∙ numbers-judged _ _ (c .before .before .before .before .before .before .if1 .left) (c .before .wide .ensures)
 
 fits : (body : List ℕ) (n : ℕ) → judged body n ≡ false → 4 + n ≤ length body
@@ -132,10 +134,12 @@ part-s1-start : tie.Need-part-s1-start
 part-s1-start c = search needs
 
 part-s1-end : tie.Need-part-s1-end
-part-s1-end c = fits (c .before .before .before .before .before .before .before .before .before .args .body .now) _ (sym (c .before .above .ensures) ∙ c .if2 .left)
+part-s1-end c = fits (c .before .before .before .before .before .before .before .before .before .args .body .now) _ (sym
+    (c .before .above .ensures) ∙ c .if2 .left)
 
 sub-s2 : tie.Need-sub-s2
-sub-s2 c = fits (c .before .before .before .before .before .before .before .before .before .before .args .body .now) _ (sym (c .before .before .above .ensures) ∙ c .before .if2 .left)
+sub-s2 c = fits (c .before .before .before .before .before .before .before .before .before .before .args .body .now) _
+    (sym (c .before .before .above .ensures) ∙ c .before .if2 .left)
 
 part-s2-start : tie.Need-part-s2-start
 part-s2-start c = fits (c .before .before .before .before .before .before .before .before .before .before .args .body .now) _ (sym (c .before .before .above .ensures) ∙ c .before .if2 .left)
@@ -146,7 +150,8 @@ part-s2-end c = search needs
 faulty-letters-requires : tie.Need-faulty-letters-requires
 faulty-letters-requires c κs = search needs
 
-letters-test : (c : tie.After-faulty-letters) → c .faulty-letters .result ≡ faultyLetters (c .before .before .before .before .before .before .before .before .before .before .before .before .args .body .now)
+letters-test : (c : tie.After-faulty-letters) → c .faulty-letters .result
+    ≡ faultyLetters (c .before .before .before .before .before .before .before .before .before .before .before .before .args .body .now)
 letters-test c = c .faulty-letters .ensures ∙ letters-judged _ _ (c .before .before .before .before .before .wide .ensures)
 
 returns-3 : tie.Need-returns-3
@@ -157,7 +162,8 @@ returns-3 c =
 faulty-action-requires : tie.Need-faulty-action-requires
 faulty-action-requires c κs = search needs
 
-action-test : (c : tie.After-faulty-action) → c .faulty-action .result ≡ faultyAction (c .before .before .before .before .before .before .before .before .before .before .before .before .before .before .args .body .now)
+action-test : (c : tie.After-faulty-action) → c .faulty-action .result
+    ≡ faultyAction (c .before .before .before .before .before .before .before .before .before .before .before .before .before .before .args .body .now)
 action-test c = c .faulty-action .ensures ∙ action-judged _ _ (c .before .before .before .before .before .before .before .wide .ensures)
 
 returns-4 : tie.Need-returns-4

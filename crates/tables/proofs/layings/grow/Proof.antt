@@ -18,7 +18,8 @@ slice-reshare-prefix-child : tie.Need-slice-reshare-prefix-child
 slice-reshare-prefix-child c = search needs
 
 slice-aggregate-child : tie.Need-slice-aggregate-child
-slice-aggregate-child c = sym (length-take-le (4 * c .before .before .before .args .count) (c .before .before .before .args .table .now) (omega arith))
+slice-aggregate-child c = sym (length-take-le (4 * c .before .before .before .args .count)
+    (c .before .before .before .args .table .now) (omega arith))
 
 child-requires : tie.Need-child-requires
 child-requires c κs = search needs
@@ -29,7 +30,8 @@ same-length c = search needs
 returns : tie.Need-returns
 returns c =
     let a = c .before .before .before .before .before .args in (
-      grow-found (a .table .now) (a .count) (a .at) (a .letter) _ _ (c .before .before .before .wide .ensures) (c .before .child .ensures .0) (c .if1 .taken),
+      grow-found (a .table .now) (a .count) (a .at) (a .letter) _ _ (c .before .before .before .wide .ensures)
+          (c .before .child .ensures .0) (c .if1 .taken),
       (omega arith, omega arith),
     )
 
@@ -42,7 +44,8 @@ same-length-2 c = search needs
 returns-2 : tie.Need-returns-2
 returns-2 c =
     let a = c .before .before .before .before .before .before .args in (
-      grow-full (a .table .now) (a .count) (a .at) (a .letter) _ _ (c .before .before .before .before .wide .ensures) (c .before .before .child .ensures .0) (c .before .if1 .left) (c .if2 .taken),
+      grow-full (a .table .now) (a .count) (a .at) (a .letter) _ _ (c .before .before .before .before .wide .ensures)
+          (c .before .before .child .ensures .0) (c .before .if1 .left) (c .if2 .taken),
       (omega arith, omega arith),
     )
 
@@ -50,7 +53,9 @@ slice-reshare-prefix-chain-end : tie.Need-slice-reshare-prefix-chain-end
 slice-reshare-prefix-chain-end c = search needs
 
 slice-aggregate-chain-end : tie.Need-slice-aggregate-chain-end
-slice-aggregate-chain-end c = sym (length-take-le (4 * c .before .before .before .before .before .before .before .args .count) (c .before .before .before .before .before .before .before .args .table .now) (omega arith))
+slice-aggregate-chain-end c = sym (length-take-le (4 *
+    c .before .before .before .before .before .before .before .args .count)
+    (c .before .before .before .before .before .before .before .args .table .now) (omega arith))
 
 chain-end-requires : tie.Need-chain-end-requires
 chain-end-requires c κs = search needs
@@ -67,9 +72,17 @@ same-length-3 c = search needs
 returns-3 : tie.Need-returns-3
 returns-3 c =
     let a = c .before .before .before .before .before .before .before .before .before .before .before .before .args in (
-      grow-new (a .table .now) (a .count) (a .at) (a .letter) _ _ (c .before .before .before .before .before .before .before .before .before .before .wide .ensures) (c .before .before .before .before .before .before .before .before .child .ensures .0) _ _ (c .before .before .before .before .before .before .before .if1 .left) (c .before .before .before .before .before .before .if2 .left)
+      grow-new (a .table .now) (a .count) (a .at) (a .letter) _ _
+          (c .before .before .before .before .before .before .before .before .before .before .wide .ensures)
+          (c .before .before .before .before .before .before .before .before .child .ensures .0) _ _
+          (c .before .before .before .before .before .before .before .if1 .left)
+          (c .before .before .before .before .before .before .if2 .left)
           (c .before .before .before .before .chain-end .ensures) (c .before .before .hang .ensures),
-      (omega (arith, c .before .before .before .before .before .before .if2 .left), omega (arith, c .before .before .before .before .before .before .before .before .before .before .before .before .pre)),
+      (
+        omega (arith, c .before .before .before .before .before .before .if2 .left),
+        omega
+            (arith, c .before .before .before .before .before .before .before .before .before .before .before .before .pre),
+      ),
     )
 
 pub grow-spec : {M : Type 1} → statement M

@@ -45,7 +45,8 @@ loop-again c =
     let turn = c .before .before .before .before .before .before .loop in
     let grown = c .before .before .grow .ensures in
     let kept = c .before .before .grow .kept .0 in (
-      sym (enter-turn (a .ending .now) (turn .left) _ _ (c .before .before .before .before .before .loop-test .taken) (turn .inv .4) (grown .0)) ∙ turn .inv .0,
+      sym (enter-turn (a .ending .now) (turn .left) _ _ (c .before .before .before .before .before .loop-test .taken)
+          (turn .inv .4) (grown .0)) ∙ turn .inv .0,
       kept ∙ turn .inv .1,
       omega (arith, kept, grown .1 .0),
       grown .1 .1,
@@ -71,9 +72,13 @@ returns : tie.Need-returns Inv-loop μ-loop
 returns c =
     let a = c .before .before .before .before .before .before .before .before .before .before .before .args in
     let turn = c .before .before .before .before .before .before .before .before .loop in
-    let whole = sym (enter-over (a .ending .now) (turn .left) _ (c .before .before .before .before .before .before .before .loop-test .left)) ∙ turn .inv .0 in
-    let read = c .before .before .before .before .before .number-at .ensures .0 in
-    (note-new _ _ (a .rule) _ _ whole read (c .before .before .before .before .if1 .taken) (c .before .before .put .ensures), ap (λ (now : Laying). now .count) whole)
+    let whole = sym (enter-over (a .ending .now) (turn .left) _
+    (c .before .before .before .before .before .before .before .loop-test .left)) ∙ turn .inv .0 in
+    let read = c .before .before .before .before .before .number-at .ensures .0 in (
+      note-new _ _ (a .rule) _ _ whole read (c .before .before .before .before .if1 .taken)
+          (c .before .before .put .ensures),
+      ap (λ (now : Laying). now .count) whole,
+    )
 
 same-length-2 : tie.Need-same-length-2 Inv-loop μ-loop
 same-length-2 c = c .before .before .before .before .loop .inv .1

@@ -37,7 +37,8 @@ loop-again : tie.Need-loop-again Inv-loop μ-loop
 loop-again c =
     let a = c .before .before .before .args in
     let turn = c .before .before .loop in (
-      rw (turn .inv .0, add-one (turn .i)) (paste-suc (a .word .now) (a .at) (a .from .now) (turn .i) 0 (omega (arith, c .before .before .before .pre)) (omega arith)),
+      rw (turn .inv .0, add-one (turn .i)) (paste-suc (a .word .now) (a .at) (a .from .now) (turn .i) 0 (omega
+          (arith, c .before .before .before .pre)) (omega arith)),
       length-set (turn .word) (a .at + turn .i) _ ∙ turn .inv .1,
       omega arith,
     )

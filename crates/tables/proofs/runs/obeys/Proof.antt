@@ -36,7 +36,8 @@ returns-2 : tie.Need-returns-2
 returns-2 c =
     let a = c .before .before .before .before .before .before .before .args in
     let size : a .place + 8 + a .ending - (a .place + 8) ≡ a .ending = omega arith in
-    sym (obeys-other (a .table .now) (a .root) (a .found) (a .word .now) (a .number) (a .condition) _ _ (rw size at (c .before .held-at .ensures)) (c .if2 .taken))
+    sym (obeys-other (a .table .now) (a .root) (a .found) (a .word .now) (a .number) (a .condition) _ _ (rw size at
+    (c .before .held-at .ensures)) (c .if2 .taken))
 
 less-requires : tie.Need-less-requires
 less-requires c κs = search needs
@@ -44,7 +45,8 @@ less-requires c κs = search needs
 slice-aggregate-holds : tie.Need-slice-aggregate-holds
 slice-aggregate-holds c =
     let part = c .before .less .ensures in
-    sym (length-take-le (c .before .less .result) (c .before .before .before .before .before .before .before .before .before .args .word .now) (omega arith))
+    sym (length-take-le (c .before .less .result)
+    (c .before .before .before .before .before .before .before .before .before .args .word .now) (omega arith))
 
 holds-requires : tie.Need-holds-requires
 holds-requires c κs = search needs
@@ -54,9 +56,15 @@ returns-3 c =
     let a = c .before .before .before .before .before .before .before .before .before .before .args in
     let s1 = take (a .ending) (drop (a .place + 8) (a .sheet .now)) in
     let size : a .place + 8 + a .ending - (a .place + 8) ≡ a .ending = omega arith in
-    let long : length s1 ≡ a .ending = length-take-le (a .ending) (drop (a .place + 8) (a .sheet .now)) (omega (arith, length-drop (a .place + 8) (a .sheet .now), c .before .before .before .before .before .before .before .before .before .before .pre .0)) in
-    obeys-judged (a .table .now) (a .root) (a .found) (a .word .now) (a .number) (a .condition) s1 _ _ (c .before .before .less .result) (c .before .before .before .before .before .before .if1 .left)
-    (rw size at (c .before .before .before .before .held-at .ensures)) (c .before .before .before .if2 .left) (omega (arith, c .before .before .less .ensures, long)) (c .holds .ensures)
+    let long : length s1 ≡ a .ending = length-take-le (a .ending) (drop (a .place + 8) (a .sheet .now)) (omega (
+      arith,
+      length-drop (a .place + 8) (a .sheet .now),
+      c .before .before .before .before .before .before .before .before .before .before .pre .0,
+    )) in
+    obeys-judged (a .table .now) (a .root) (a .found) (a .word .now) (a .number) (a .condition) s1 _ _
+    (c .before .before .less .result) (c .before .before .before .before .before .before .if1 .left)
+    (rw size at (c .before .before .before .before .held-at .ensures)) (c .before .before .before .if2 .left) (omega
+    (arith, c .before .before .less .ensures, long)) (c .holds .ensures)
 
 pub obeys-spec : {M : Type 1} → statement M
 obeys-spec =

@@ -29,8 +29,13 @@ abbrev μ-loop : tie.MeasureT-loop
 loop-holds : tie.Need-loop-holds Inv-loop μ-loop
 loop-holds c =
     let a = c .before .before .before .args in
-    let pre = c .before .before .before .pre in
-    (pre .1 .1 .0, pre .1 .0, pre .1 .1 .1 .0, trying-start (a .table .now) (a .root) (a .found) (a .word .now) (a .sheet .now) (a .groups) (a .at) (a .rules) (pre .0))
+    let pre = c .before .before .before .pre in (
+      pre .1 .1 .0,
+      pre .1 .0,
+      pre .1 .1 .1 .0,
+      trying-start (a .table .now) (a .root) (a .found) (a .word .now)
+          (a .sheet .now) (a .groups) (a .at) (a .rules) (pre .0),
+    )
 
 draw-requires : tie.Need-draw-requires Inv-loop μ-loop
 draw-requires c κs = tt
@@ -45,25 +50,34 @@ returns : tie.Need-returns Inv-loop μ-loop
 returns c =
     let a = c .before .before .before .before .before .before .before .before .before .args in
     let turn = c .before .before .before .before .before .loop in
-    rw (trying-group (a .table .now) (a .root) (a .found) (a .word .now) (a .sheet .now) (a .groups) (a .at) (a .rules) (turn .place) (turn .number) (turn .inv .3) _ (group-here _ _ (sym (c .before .before .before .draw .ensures) ∙ c .before .enum-told .given .1))) (c .nothing .ensures)
+    rw (trying-group (a .table .now) (a .root) (a .found) (a .word .now) (a .sheet .now) (a .groups) (a .at) (a .rules)
+    (turn .place) (turn .number) (turn .inv .3) _ (group-here _ _ (sym (c .before .before .before .draw .ensures)
+    ∙ c .before .enum-told .given .1))) (c .nothing .ensures)
 
 enum-known-record : tie.Need-enum-known-record Inv-loop μ-loop
 enum-known-record c = search needs
 
 -- the rule that was found stands within the sheet
 inside-of : (c : tie.After-known-told Inv-loop μ-loop)
-    → (c .before .before .before .before .before .loop .place + (8 + c .before .record .given .0 .1 .1 .1 .0 + c .before .record .given .0 .1 .1 .1 .1 .0) ≤ length (c .before .before .before .before .before .before .before .before .before .args .sheet .now))
+    → (c .before .before .before .before .before .loop .place +
+    (8 + c .before .record .given .0 .1 .1 .1 .0 + c .before .record .given .0 .1 .1 .1 .1 .0) ≤ length
+    (c .before .before .before .before .before .before .before .before .before .args .sheet .now))
     × (c .before .before .before .before .before .loop .number < 128)
 inside-of c =
     let a = c .before .before .before .before .before .before .before .before .before .args in
     let turn = c .before .before .before .before .before .loop in
-    trying-inside (a .table .now) (a .root) (a .found) (a .word .now) (a .sheet .now) (a .groups) (a .at) (a .rules) (turn .place) (turn .number) (turn .inv .3) _ _ _ _ _ (sym (c .before .before .before .draw .ensures) ∙ c .before .record .given .1)
+    trying-inside (a .table .now) (a .root) (a .found) (a .word .now) (a .sheet .now) (a .groups) (a .at) (a .rules)
+    (turn .place) (turn .number) (turn .inv .3) _ _ _ _ _ (sym (c .before .before .before .draw .ensures)
+    ∙ c .before .record .given .1)
 
 add-number : tie.Need-add-number Inv-loop μ-loop
 add-number c = let few = inside-of c .1 in omega arith
 
 obeys-requires : tie.Need-obeys-requires Inv-loop μ-loop
-obeys-requires c κs = let inside = inside-of c .0 in (omega arith, c .before .before .before .before .before .before .before .before .before .pre .1 .1 .1 .1)
+obeys-requires c κs = let inside = inside-of c .0 in (
+  omega arith,
+  c .before .before .before .before .before .before .before .before .before .pre .1 .1 .1 .1,
+)
 
 returns-2 : tie.Need-returns-2 Inv-loop μ-loop
 returns-2 c =
@@ -71,7 +85,13 @@ returns-2 c =
     let turn = c .before .before .before .before .before .before .before .loop in
     let found = sym (c .before .before .before .before .before .draw .ensures) ∙ c .before .before .before .record .given .1 in
     let taken = sym (c .before .obeys .ensures) ∙ c .if1 .taken in
-    rw (trying-here (a .table .now) (a .root) (a .found) (a .word .now) (a .sheet .now) (a .groups) (a .at) (a .rules) (turn .place) (turn .number) (turn .inv .3) _ _ _ _ _ found taken) (turn .inv .1, _, rule-facts (a .sheet .now) (turn .place) _ _ _ _ _ found)
+    rw (trying-here (a .table .now) (a .root) (a .found) (a .word .now) (a .sheet .now) (a .groups) (a .at) (a .rules)
+    (turn .place) (turn .number) (turn .inv .3) _ _ _ _ _ found taken) (
+      turn .inv .1,
+      _,
+      rule-facts (a .sheet .now)
+          (turn .place) _ _ _ _ _ found,
+    )
 
 add-place : tie.Need-add-place Inv-loop μ-loop
 add-place c = let inside = inside-of (c .before .before) .0 in omega arith
@@ -91,8 +111,13 @@ loop-again c =
     let turn = c .before .before .before .before .before .before .before .loop in
     let found = sym (c .before .before .before .before .before .draw .ensures) ∙ c .before .before .before .record .given .1 in
     let left = sym (c .before .obeys .ensures) ∙ c .if1 .left in
-    let inside = inside-of (c .before .before) in
-    (inside .0, omega arith, omega (arith, inside .1), trying-next (a .table .now) (a .root) (a .found) (a .word .now) (a .sheet .now) (a .groups) (a .at) (a .rules) (turn .place) (turn .number) (turn .inv .3) _ _ _ _ _ found left)
+    let inside = inside-of (c .before .before) in (
+      inside .0,
+      omega arith,
+      omega (arith, inside .1),
+      trying-next (a .table .now) (a .root) (a .found) (a .word .now)
+          (a .sheet .now) (a .groups) (a .at) (a .rules) (turn .place) (turn .number) (turn .inv .3) _ _ _ _ _ found left,
+    )
 
 enum-told-2 : tie.Need-enum-told-2 Inv-loop μ-loop
 enum-told-2 c = search needs
@@ -104,7 +129,9 @@ returns-3 : tie.Need-returns-3 Inv-loop μ-loop
 returns-3 c =
     let a = c .before .before .before .before .before .before .before .before .before .args in
     let turn = c .before .before .before .before .before .loop in
-    rw (trying-end (a .table .now) (a .root) (a .found) (a .word .now) (a .sheet .now) (a .groups) (a .at) (a .rules) (turn .place) (turn .number) (turn .inv .3) (end-here _ (sym (c .before .before .before .draw .ensures) ∙ c .before .enum-told2 .given .1))) (c .nothing2 .ensures)
+    rw (trying-end (a .table .now) (a .root) (a .found) (a .word .now) (a .sheet .now) (a .groups) (a .at) (a .rules)
+    (turn .place) (turn .number) (turn .inv .3) (end-here _ (sym (c .before .before .before .draw .ensures)
+    ∙ c .before .enum-told2 .given .1))) (c .nothing2 .ensures)
 
 enum-told-3 : tie.Need-enum-told-3 Inv-loop μ-loop
 enum-told-3 c = search needs

@@ -14,7 +14,8 @@ slice-reshare-prefix-deepest : tie.Need-slice-reshare-prefix-deepest
 slice-reshare-prefix-deepest c = search needs
 
 slice-aggregate-deepest : tie.Need-slice-aggregate-deepest
-slice-aggregate-deepest c = sym (length-take-le (c .before .before .before .before .args .size) (c .before .before .before .before .args .word .now) (c .before .before .before .before .pre .1 .1 .1 .1 .1))
+slice-aggregate-deepest c = sym (length-take-le (c .before .before .before .before .args .size)
+    (c .before .before .before .before .args .word .now) (c .before .before .before .before .pre .1 .1 .1 .1 .1))
 
 deepest-requires : tie.Need-deepest-requires
 deepest-requires c κs = search needs
@@ -27,13 +28,16 @@ returns c =
     let a = c .before .before .before .before .before .before .args in
     let rest = rulesOf (restAt (a .sheet .now) (a .at) (a .groups) (a .rules)) in
     let within = c .before .before .before .before .before .before .pre .1 .1 .1 .1 .1 in
-    step-none (a .table .now) (a .root) (a .rules + 1) (a .word .now) (a .size) rest (c .before .deepest .result) within (c .before .deepest .ensures) (c .if1 .taken)
+    step-none (a .table .now) (a .root) (a .rules + 1) (a .word .now) (a .size) rest (c .before .deepest .result) within
+    (c .before .deepest .ensures) (c .if1 .taken)
 
 slice-reshare-prefix-tried-at : tie.Need-slice-reshare-prefix-tried-at
 slice-reshare-prefix-tried-at c = search needs
 
 slice-aggregate-tried-at : tie.Need-slice-aggregate-tried-at
-slice-aggregate-tried-at c = sym (length-take-le (c .before .before .before .before .before .before .before .args .size) (c .before .before .before .before .before .before .before .args .word .now) (c .before .before .before .before .before .before .before .pre .1 .1 .1 .1 .1))
+slice-aggregate-tried-at c = sym (length-take-le (c .before .before .before .before .before .before .before .args .size)
+    (c .before .before .before .before .before .before .before .args .word .now)
+    (c .before .before .before .before .before .before .before .pre .1 .1 .1 .1 .1))
 
 tried-at-requires : tie.Need-tried-at-requires
 tried-at-requires c κs = search needs
@@ -46,7 +50,9 @@ returns-2 c =
     let a = c .before .before .before .before .before .before .before .before .before .args in
     let rest = rulesOf (restAt (a .sheet .now) (a .at) (a .groups) (a .rules)) in
     let within = c .before .before .before .before .before .before .before .before .before .pre .1 .1 .1 .1 .1 in
-    step-turned-down (a .table .now) (a .root) (a .rules + 1) (a .word .now) (a .size) rest (c .before .before .before .before .deepest .result) within (c .before .before .before .before .deepest .ensures) (c .before .before .before .if1 .left)
+    step-turned-down (a .table .now) (a .root) (a .rules + 1) (a .word .now) (a .size) rest
+    (c .before .before .before .before .deepest .result) within
+    (c .before .before .before .before .deepest .ensures) (c .before .before .before .if1 .left)
     (none-picked-as (a .sheet .now) _ _ _ _ _ _ (c .before .tried-at .ensures) (c .if2 .taken))
 
 less-requires : tie.Need-less-requires
@@ -64,8 +70,18 @@ returns-3 c =
     let rest = rulesOf (restAt (a .sheet .now) (a .at) (a .groups) (a .rules)) in
     let within = c .before .before .before .before .before .before .before .before .before .before .before .before .before .before .pre .1 .1 .1 .1 .1 in
     let rule = c .before .before .before .before .before .before .tried-at .result in
-    let it = some-picked-as (a .sheet .now) (picked (a .table .now) (a .root) (c .before .before .before .before .before .before .before .before .before .deepest .result) (take (a .size) (a .word .now)) (a .rules + 1) rest) (rule .place) (rule .action) (rule .opens) (rule .ending) (rule .replacement) (c .before .before .before .before .before .before .tried-at .ensures) (c .before .before .before .before .before .if2 .left) in
-    rw (c .less2 .ensures, c .before .before .before .before .less .ensures) (step-single (a .table .now) (a .root) (a .rules + 1) (a .word .now) (a .size) rest (c .before .before .before .before .before .before .before .before .before .deepest .result) within (c .before .before .before .before .before .before .before .before .before .deepest .ensures) (a .sheet .now) (rule .place) (it .condition) (rule .action) (rule .opens) (rule .ending) (rule .replacement) (it .one) (it .facts) (c .before .before .before .before .before .before .before .before .if1 .left) (it .is-one) (c .before .if3 .taken))
+    let it = some-picked-as (a .sheet .now) (picked (a .table .now) (a .root)
+    (c .before .before .before .before .before .before .before .before .before .deepest .result) (take (a .size)
+    (a .word .now)) (a .rules + 1) rest) (rule .place) (rule .action) (rule .opens) (rule .ending)
+    (rule .replacement) (c .before .before .before .before .before .before .tried-at .ensures)
+    (c .before .before .before .before .before .if2 .left) in
+    rw (c .less2 .ensures, c .before .before .before .before .less .ensures) (step-single (a .table .now) (a .root)
+    (a .rules + 1) (a .word .now) (a .size) rest
+    (c .before .before .before .before .before .before .before .before .before .deepest .result) within
+    (c .before .before .before .before .before .before .before .before .before .deepest .ensures) (a .sheet .now)
+    (rule .place) (it .condition) (rule .action) (rule .opens) (rule .ending) (rule .replacement) (it .one)
+    (it .facts) (c .before .before .before .before .before .before .before .before .if1 .left) (it .is-one)
+    (c .before .if3 .taken))
 
 sub-if4 : tie.Need-sub-if4
 sub-if4 c = search needs
@@ -79,9 +95,18 @@ returns-4 c =
     let rest = rulesOf (restAt (a .sheet .now) (a .at) (a .groups) (a .rules)) in
     let within = c .before .before .before .before .before .before .before .before .before .before .before .before .before .before .pre .1 .1 .1 .1 .1 in
     let rule = c .before .before .before .before .before .before .tried-at .result in
-    let it = some-picked-as (a .sheet .now) (picked (a .table .now) (a .root) (c .before .before .before .before .before .before .before .before .before .deepest .result) (take (a .size) (a .word .now)) (a .rules + 1) rest) (rule .place) (rule .action) (rule .opens) (rule .ending) (rule .replacement) (c .before .before .before .before .before .before .tried-at .ensures) (c .before .before .before .before .before .if2 .left) in
+    let it = some-picked-as (a .sheet .now) (picked (a .table .now) (a .root)
+    (c .before .before .before .before .before .before .before .before .before .deepest .result) (take (a .size)
+    (a .word .now)) (a .rules + 1) rest) (rule .place) (rule .action) (rule .opens) (rule .ending)
+    (rule .replacement) (c .before .before .before .before .before .before .tried-at .ensures)
+    (c .before .before .before .before .before .if2 .left) in
     let room = rw (c .before .before .before .before .less .ensures) at (c .if4 .taken) in
-    step-outgrown (a .table .now) (a .root) (a .rules + 1) (a .word .now) (a .size) rest (c .before .before .before .before .before .before .before .before .before .deepest .result) within (c .before .before .before .before .before .before .before .before .before .deepest .ensures) (a .sheet .now) (rule .place) (it .condition) (rule .action) (rule .opens) (rule .ending) (rule .replacement) (it .one) (it .facts) (c .before .before .before .before .before .before .before .before .if1 .left) (it .is-one) _ (c .before .if3 .left) room
+    step-outgrown (a .table .now) (a .root) (a .rules + 1) (a .word .now) (a .size) rest
+    (c .before .before .before .before .before .before .before .before .before .deepest .result) within
+    (c .before .before .before .before .before .before .before .before .before .deepest .ensures) (a .sheet .now)
+    (rule .place) (it .condition) (rule .action) (rule .opens) (rule .ending) (rule .replacement) (it .one)
+    (it .facts) (c .before .before .before .before .before .before .before .before .if1 .left) (it .is-one) _
+    (c .before .if3 .left) room
 
 add-start : tie.Need-add-start
 add-start c =
@@ -89,7 +114,11 @@ add-start c =
     let rest = rulesOf (restAt (a .sheet .now) (a .at) (a .groups) (a .rules)) in
     let within = c .before .before .before .before .before .before .before .before .before .before .before .before .before .before .pre .1 .1 .1 .1 .1 in
     let rule = c .before .before .before .before .before .before .tried-at .result in
-    let it = some-picked-as (a .sheet .now) (picked (a .table .now) (a .root) (c .before .before .before .before .before .before .before .before .before .deepest .result) (take (a .size) (a .word .now)) (a .rules + 1) rest) (rule .place) (rule .action) (rule .opens) (rule .ending) (rule .replacement) (c .before .before .before .before .before .before .tried-at .ensures) (c .before .before .before .before .before .if2 .left) in
+    let it = some-picked-as (a .sheet .now) (picked (a .table .now) (a .root)
+    (c .before .before .before .before .before .before .before .before .before .deepest .result) (take (a .size)
+    (a .word .now)) (a .rules + 1) rest) (rule .place) (rule .action) (rule .opens) (rule .ending)
+    (rule .replacement) (c .before .before .before .before .before .before .tried-at .ensures)
+    (c .before .before .before .before .before .if2 .left) in
     let inside = it .facts .inside in
     omega arith
 
@@ -99,7 +128,11 @@ add-start-2 c =
     let rest = rulesOf (restAt (a .sheet .now) (a .at) (a .groups) (a .rules)) in
     let within = c .before .before .before .before .before .before .before .before .before .before .before .before .before .before .pre .1 .1 .1 .1 .1 in
     let rule = c .before .before .before .before .before .before .tried-at .result in
-    let it = some-picked-as (a .sheet .now) (picked (a .table .now) (a .root) (c .before .before .before .before .before .before .before .before .before .deepest .result) (take (a .size) (a .word .now)) (a .rules + 1) rest) (rule .place) (rule .action) (rule .opens) (rule .ending) (rule .replacement) (c .before .before .before .before .before .before .tried-at .ensures) (c .before .before .before .before .before .if2 .left) in
+    let it = some-picked-as (a .sheet .now) (picked (a .table .now) (a .root)
+    (c .before .before .before .before .before .before .before .before .before .deepest .result) (take (a .size)
+    (a .word .now)) (a .rules + 1) rest) (rule .place) (rule .action) (rule .opens) (rule .ending)
+    (rule .replacement) (c .before .before .before .before .before .before .tried-at .ensures)
+    (c .before .before .before .before .before .if2 .left) in
     let inside = it .facts .inside in
     omega arith
 
@@ -109,7 +142,11 @@ add-end c =
     let rest = rulesOf (restAt (a .sheet .now) (a .at) (a .groups) (a .rules)) in
     let within = c .before .before .before .before .before .before .before .before .before .before .before .before .before .before .pre .1 .1 .1 .1 .1 in
     let rule = c .before .before .before .before .before .before .tried-at .result in
-    let it = some-picked-as (a .sheet .now) (picked (a .table .now) (a .root) (c .before .before .before .before .before .before .before .before .before .deepest .result) (take (a .size) (a .word .now)) (a .rules + 1) rest) (rule .place) (rule .action) (rule .opens) (rule .ending) (rule .replacement) (c .before .before .before .before .before .before .tried-at .ensures) (c .before .before .before .before .before .if2 .left) in
+    let it = some-picked-as (a .sheet .now) (picked (a .table .now) (a .root)
+    (c .before .before .before .before .before .before .before .before .before .deepest .result) (take (a .size)
+    (a .word .now)) (a .rules + 1) rest) (rule .place) (rule .action) (rule .opens) (rule .ending)
+    (rule .replacement) (c .before .before .before .before .before .before .tried-at .ensures)
+    (c .before .before .before .before .before .if2 .left) in
     let inside = it .facts .inside in
     omega arith
 
@@ -125,7 +162,11 @@ part-copy-in-end c =
     let rest = rulesOf (restAt (a .sheet .now) (a .at) (a .groups) (a .rules)) in
     let within = c .before .before .before .before .before .before .before .before .before .before .before .before .before .before .before .pre .1 .1 .1 .1 .1 in
     let rule = c .before .before .before .before .before .before .before .tried-at .result in
-    let it = some-picked-as (a .sheet .now) (picked (a .table .now) (a .root) (c .before .before .before .before .before .before .before .before .before .before .deepest .result) (take (a .size) (a .word .now)) (a .rules + 1) rest) (rule .place) (rule .action) (rule .opens) (rule .ending) (rule .replacement) (c .before .before .before .before .before .before .before .tried-at .ensures) (c .before .before .before .before .before .before .if2 .left) in
+    let it = some-picked-as (a .sheet .now) (picked (a .table .now) (a .root)
+    (c .before .before .before .before .before .before .before .before .before .before .deepest .result) (take
+    (a .size) (a .word .now)) (a .rules + 1) rest) (rule .place) (rule .action) (rule .opens) (rule .ending)
+    (rule .replacement) (c .before .before .before .before .before .before .before .tried-at .ensures)
+    (c .before .before .before .before .before .before .if2 .left) in
     let inside = it .facts .inside in
     omega arith
 
@@ -135,7 +176,11 @@ copy-in-requires c κs =
     let rest = rulesOf (restAt (a .sheet .now) (a .at) (a .groups) (a .rules)) in
     let within = c .before .before .before .before .before .before .before .before .before .before .before .before .before .before .before .before .pre .1 .1 .1 .1 .1 in
     let rule = c .before .before .before .before .before .before .before .before .tried-at .result in
-    let it = some-picked-as (a .sheet .now) (picked (a .table .now) (a .root) (c .before .before .before .before .before .before .before .before .before .before .before .deepest .result) (take (a .size) (a .word .now)) (a .rules + 1) rest) (rule .place) (rule .action) (rule .opens) (rule .ending) (rule .replacement) (c .before .before .before .before .before .before .before .before .tried-at .ensures) (c .before .before .before .before .before .before .before .if2 .left) in
+    let it = some-picked-as (a .sheet .now) (picked (a .table .now) (a .root)
+    (c .before .before .before .before .before .before .before .before .before .before .before .deepest .result)
+    (take (a .size) (a .word .now)) (a .rules + 1) rest) (rule .place) (rule .action) (rule .opens) (rule .ending)
+    (rule .replacement) (c .before .before .before .before .before .before .before .before .tried-at .ensures)
+    (c .before .before .before .before .before .before .before .if2 .left) in
     let inside = it .facts .inside in
     let start = rule .place + 8 + rule .ending in
     let long = length-take-le (start + rule .replacement - start) (drop start (a .sheet .now)) (omega (arith, length-drop start (a .sheet .now))) in
@@ -144,7 +189,13 @@ copy-in-requires c κs =
 add-t24 : tie.Need-add-t24
 add-t24 c =
     let long = c .before .before .before .before .before .before .before .before .before .before .before .before .before .before .before .before .before .before .before .good .1 .1 .1 .1 .1 .1 .0 .0 in
-    omega (arith, c .before .before .before .before .before .if4 .left, c .before .before .before .before .before .before .before .before .before .less .ensures, c .before .before .before .before .before .before .before .before .before .before .before .before .before .before .before .before .before .before .before .pre .1 .1 .1 .1 .1, long)
+    omega (
+      arith,
+      c .before .before .before .before .before .if4 .left,
+      c .before .before .before .before .before .before .before .before .before .less .ensures,
+      c .before .before .before .before .before .before .before .before .before .before .before .before .before .before .before .before .before .before .before .pre .1 .1 .1 .1 .1,
+      long,
+    )
 
 same-length-5 : tie.Need-same-length-5
 same-length-5 c = search needs
@@ -155,14 +206,20 @@ returns-5 c =
     let rest = rulesOf (restAt (a .sheet .now) (a .at) (a .groups) (a .rules)) in
     let within = c .before .before .before .before .before .before .before .before .before .before .before .before .before .before .before .before .before .before .before .pre .1 .1 .1 .1 .1 in
     let rule = c .before .before .before .before .before .before .before .before .before .before .before .tried-at .result in
-    let it = some-picked-as (a .sheet .now) (picked (a .table .now) (a .root) (c .before .before .before .before .before .before .before .before .before .before .before .before .before .before .deepest .result) (take (a .size) (a .word .now)) (a .rules + 1) rest) (rule .place) (rule .action) (rule .opens) (rule .ending) (rule .replacement) (c .before .before .before .before .before .before .before .before .before .before .before .tried-at .ensures) (c .before .before .before .before .before .before .before .before .before .before .if2 .left) in
+    let it = some-picked-as (a .sheet .now) (picked (a .table .now) (a .root)
+    (c .before .before .before .before .before .before .before .before .before .before .before .before .before .before .deepest .result) (take (a .size) (a .word .now)) (a .rules + 1) rest) (rule .place) (rule .action) (rule .opens) (rule .ending) (rule .replacement) (c .before .before .before .before .before .before .before .before .before .before .before .tried-at .ensures) (c .before .before .before .before .before .before .before .before .before .before .if2 .left) in
     let inside = it .facts .inside in
     let start = rule .place + 8 + rule .ending in
     let size : start + rule .replacement - start ≡ rule .replacement = omega arith in
-    let long : length (take (rule .replacement) (drop start (a .sheet .now))) ≡ rule .replacement = length-take-le (rule .replacement) (drop start (a .sheet .now)) (omega (arith, length-drop start (a .sheet .now))) in
-    let room = rw (c .before .before .before .before .before .before .before .before .before .less .ensures) at (c .before .before .before .before .before .if4 .left) in
+    let long : length (take (rule .replacement) (drop start (a .sheet .now)))
+    ≡ rule .replacement = length-take-le (rule .replacement) (drop start (a .sheet .now)) (omega
+    (arith, length-drop start (a .sheet .now))) in
+    let room = rw (c .before .before .before .before .before .before .before .before .before .less .ensures) at
+    (c .before .before .before .before .before .if4 .left) in
     let stored = rw (size, long, c .before .before .before .before .before .before .before .before .before .less .ensures) at (c .before .before .copy-in .ensures) in
-    rw (c .before .before .before .before .before .before .before .before .before .less .ensures) (step-replace (a .table .now) (a .root) (a .rules + 1) (a .word .now) (a .size) rest (c .before .before .before .before .before .before .before .before .before .before .before .before .before .before .deepest .result) within (c .before .before .before .before .before .before .before .before .before .before .before .before .before .before .deepest .ensures) (a .sheet .now) (rule .place) (it .condition) (rule .action) (rule .opens) (rule .ending) (rule .replacement) (it .one) (it .facts) (c .before .before .before .before .before .before .before .before .before .before .before .before .before .if1 .left) (it .is-one) _ (c .before .before .before .before .before .before .if3 .left) room stored)
+    rw (c .before .before .before .before .before .before .before .before .before .less .ensures) (step-replace
+    (a .table .now) (a .root) (a .rules + 1) (a .word .now) (a .size) rest
+    (c .before .before .before .before .before .before .before .before .before .before .before .before .before .before .deepest .result) within (c .before .before .before .before .before .before .before .before .before .before .before .before .before .before .deepest .ensures) (a .sheet .now) (rule .place) (it .condition) (rule .action) (rule .opens) (rule .ending) (rule .replacement) (it .one) (it .facts) (c .before .before .before .before .before .before .before .before .before .before .before .before .before .if1 .left) (it .is-one) _ (c .before .before .before .before .before .before .if3 .left) room stored)
 
 pub walk-group-spec : {M : Type 1} → statement M
 walk-group-spec =

@@ -35,8 +35,15 @@ abbrev μ-loop : tie.MeasureT-loop
 
 loop-holds : tie.Need-loop-holds Inv-loop μ-loop
 loop-holds c =
-    let a = c .before .before .before .args in
-    (omega arith, omega arith, omega arith, omega arith, refl, walking-start (a .table .now) (a .sheet .now) (a .word .now) (c .before .before .before .pre))
+    let a = c .before .before .before .args in (
+      omega arith,
+      omega arith,
+      omega arith,
+      omega arith,
+      refl,
+      walking-start (a .table .now) (a .sheet .now)
+          (a .word .now) (c .before .before .before .pre),
+    )
 
 draw-requires : tie.Need-draw-requires Inv-loop μ-loop
 draw-requires c κs = tt
@@ -46,11 +53,15 @@ enum-known-found c = search needs
 
 -- the group that was found stands within the sheet, and its rules can be read
 inside-of : (c : tie.After-known-told Inv-loop μ-loop)
-    → (c .before .before .before .before .before .loop .at + 6 ≤ length (c .before .before .before .before .before .before .before .before .before .args .sheet .now)) × (c .before .before .before .before .before .loop .next < 16)
+    → (c .before .before .before .before .before .loop .at + 6 ≤ length
+    (c .before .before .before .before .before .before .before .before .before .args .sheet .now)) ×
+    (c .before .before .before .before .before .loop .next < 16)
 inside-of c =
     let a = c .before .before .before .before .before .before .before .before .before .args in
     let turn = c .before .before .before .before .before .loop in
-    walking-inside (a .table .now) (a .sheet .now) (a .word .now) (turn .at) (turn .next) (turn .rules) (turn .opened) (take (turn .size) (turn .word)) (turn .inv .5) _ (group-here _ _ (sym (c .before .before .before .draw .ensures) ∙ c .before .found .given .1))
+    walking-inside (a .table .now) (a .sheet .now) (a .word .now) (turn .at) (turn .next) (turn .rules) (turn .opened)
+    (take (turn .size) (turn .word)) (turn .inv .5) _ (group-here _ _ (sym
+    (c .before .before .before .draw .ensures) ∙ c .before .found .given .1))
 
 add-at : tie.Need-add-at Inv-loop μ-loop
 add-at c = let inside = inside-of c .0 in omega arith
@@ -63,18 +74,26 @@ walk-group-requires c κs =
     let a = c .before .before .before .before .before .before .before .before .before .before .before .args in
     let turn = c .before .before .before .before .before .before .before .loop in
     let inside = inside-of (c .before .before) in (
-      walking-readable (a .table .now) (a .sheet .now) (a .word .now) (turn .at) (turn .next) (turn .rules) (turn .opened) (take (turn .size) (turn .word)) (turn .inv .5) _ (group-here _ _ (sym (c .before .before .before .before .before .draw .ensures) ∙ c .before .before .before .found .given .1)),
+      walking-readable (a .table .now) (a .sheet .now) (a .word .now) (turn .at) (turn .next) (turn .rules)
+          (turn .opened) (take (turn .size) (turn .word)) (turn .inv .5) _ (group-here _ _ (sym
+          (c .before .before .before .before .before .draw .ensures) ∙ c .before .before .before .found .given .1)),
       (omega arith, (inside .0, (turn .inv .2, (omega (arith, turn .inv .1), turn .inv .3)))),
     )
 
 same-length : tie.Need-same-length Inv-loop μ-loop
-same-length c = c .before .before .before .before .walk-group .kept .1 .1 .1 .1 .1 .1 .0 ∙ c .before .before .before .before .before .before .before .before .before .before .before .before .loop .inv .4
+same-length c = c .before .before .before .before .walk-group .kept .1 .1 .1 .1 .1 .1 .0
+    ∙ c .before .before .before .before .before .before .before .before .before .before .before .before .loop .inv .4
 
 returns : tie.Need-returns Inv-loop μ-loop
 returns c =
     let a = c .before .before .before .before .before .before .before .before .before .before .before .before .before .before .before .before .args in
     let turn = c .before .before .before .before .before .before .before .before .before .before .before .before .loop in
-    rw (← walking-outgrown (a .table .now) (a .sheet .now) (a .word .now) (turn .at) (turn .next) (turn .rules) (turn .opened) (take (turn .size) (turn .word)) (turn .inv .5) _ (group-here _ _ (sym (c .before .before .before .before .before .before .before .before .before .before .draw .ensures) ∙ c .before .before .before .before .before .before .before .before .found .given .1)) _ _ _ _ (c .before .before .before .before .before .before .if1 .taken) (rw (turn .inv .4) at (c .before .before .before .before .walk-group .ensures)) (not-true _ (c .if2 .taken))) tt
+    rw (← walking-outgrown (a .table .now) (a .sheet .now) (a .word .now) (turn .at) (turn .next) (turn .rules)
+    (turn .opened) (take (turn .size) (turn .word)) (turn .inv .5) _ (group-here _ _ (sym
+    (c .before .before .before .before .before .before .before .before .before .before .draw .ensures)
+    ∙ c .before .before .before .before .before .before .before .before .found .given .1)) _ _ _ _
+    (c .before .before .before .before .before .before .if1 .taken) (rw (turn .inv .4) at
+    (c .before .before .before .before .walk-group .ensures)) (not-true _ (c .if2 .taken))) tt
 
 loop-less : tie.Need-loop-less Inv-loop μ-loop
 loop-less c = let inside = inside-of (c .before .before .before .before .before .before .before) .0 in omega arith
@@ -91,7 +110,12 @@ loop-again c =
       turn .inv .2,
       omega (arith, left .1, kept),
       kept ∙ turn .inv .4,
-      walking-step (a .table .now) (a .sheet .now) (a .word .now) (turn .at) (turn .next) (turn .rules) (turn .opened) (take (turn .size) (turn .word)) (turn .inv .5) _ (group-here _ _ (sym (c .before .before .before .before .before .before .before .before .before .before .draw .ensures) ∙ c .before .before .before .before .before .before .before .before .found .given .1)) _ _ _ _ (c .before .before .before .before .before .before .if1 .taken) (rw (turn .inv .4) at (c .before .before .before .before .walk-group .ensures)) (not-false _ (c .if2 .left)),
+      walking-step (a .table .now) (a .sheet .now) (a .word .now) (turn .at) (turn .next) (turn .rules) (turn .opened)
+          (take (turn .size) (turn .word)) (turn .inv .5) _ (group-here _ _ (sym
+          (c .before .before .before .before .before .before .before .before .before .before .draw .ensures)
+          ∙ c .before .before .before .before .before .before .before .before .found .given .1)) _ _ _ _
+          (c .before .before .before .before .before .before .if1 .taken) (rw (turn .inv .4) at
+          (c .before .before .before .before .walk-group .ensures)) (not-false _ (c .if2 .left)),
     )
 
 loop-less-2 : tie.Need-loop-less-2 Inv-loop μ-loop
@@ -101,22 +125,40 @@ loop-again-2 : tie.Need-loop-again-2 Inv-loop μ-loop
 loop-again-2 c =
     let a = c .before .before .before .before .before .before .before .before .before .before .args in
     let turn = c .before .before .before .before .before .before .loop in
-    let inside = inside-of (c .before) in
-    (inside .0, omega (arith, inside .1), turn .inv .2, turn .inv .3, turn .inv .4, walking-skip (a .table .now) (a .sheet .now) (a .word .now) (turn .at) (turn .next) (turn .rules) (turn .opened) (take (turn .size) (turn .word)) (turn .inv .5) _ (group-here _ _ (sym (c .before .before .before .before .draw .ensures) ∙ c .before .before .found .given .1)) (c .if1 .left))
+    let inside = inside-of (c .before) in (
+      inside .0,
+      omega (arith, inside .1),
+      turn .inv .2,
+      turn .inv .3,
+      turn .inv .4,
+      walking-skip (a .table .now)
+          (a .sheet .now) (a .word .now) (turn .at) (turn .next) (turn .rules) (turn .opened) (take (turn .size)
+          (turn .word)) (turn .inv .5) _ (group-here _ _ (sym (c .before .before .before .before .draw .ensures)
+          ∙ c .before .before .found .given .1)) (c .if1 .left),
+    )
 
 enum-known-found-2 : tie.Need-enum-known-found-2 Inv-loop μ-loop
 enum-known-found-2 c = search needs
 
 rule-of : (c : tie.After-known-told2 Inv-loop μ-loop)
-    → Walking (c .before .before .before .before .before .before .before .before .before .args .table .now) (c .before .before .before .before .before .before .before .before .before .args .sheet .now) (c .before .before .before .before .before .before .before .before .before .args .word .now)
-    (c .before .before .before .before .before .loop .at + (8 + c .before .found2 .given .0 .1 .1 .1 .0 + c .before .found2 .given .0 .1 .1 .1 .1 .0)) (c .before .before .before .before .before .loop .next) (c .before .before .before .before .before .loop .rules + 1)
-    (c .before .before .before .before .before .loop .opened) (take (c .before .before .before .before .before .loop .size) (c .before .before .before .before .before .loop .word))
-    × (c .before .before .before .before .before .loop .at + (8 + c .before .found2 .given .0 .1 .1 .1 .0 + c .before .found2 .given .0 .1 .1 .1 .1 .0) ≤ length (c .before .before .before .before .before .before .before .before .before .args .sheet .now))
+    → Walking (c .before .before .before .before .before .before .before .before .before .args .table .now)
+    (c .before .before .before .before .before .before .before .before .before .args .sheet .now)
+    (c .before .before .before .before .before .before .before .before .before .args .word .now)
+    (c .before .before .before .before .before .loop .at + (8 + c .before .found2 .given .0 .1 .1 .1 .0 +
+    c .before .found2 .given .0 .1 .1 .1 .1 .0)) (c .before .before .before .before .before .loop .next)
+    (c .before .before .before .before .before .loop .rules + 1)
+    (c .before .before .before .before .before .loop .opened) (take
+    (c .before .before .before .before .before .loop .size) (c .before .before .before .before .before .loop .word))
+    × (c .before .before .before .before .before .loop .at +
+    (8 + c .before .found2 .given .0 .1 .1 .1 .0 + c .before .found2 .given .0 .1 .1 .1 .1 .0) ≤ length
+    (c .before .before .before .before .before .before .before .before .before .args .sheet .now))
     × (c .before .before .before .before .before .loop .rules < 128)
 rule-of c =
     let a = c .before .before .before .before .before .before .before .before .before .args in
     let turn = c .before .before .before .before .before .loop in
-    walking-rule (a .table .now) (a .sheet .now) (a .word .now) (turn .at) (turn .next) (turn .rules) (turn .opened) (take (turn .size) (turn .word)) (turn .inv .5) _ _ (rule-here _ _ _ _ _ _ (sym (c .before .before .before .draw .ensures) ∙ c .before .found2 .given .1))
+    walking-rule (a .table .now) (a .sheet .now) (a .word .now) (turn .at) (turn .next) (turn .rules) (turn .opened)
+    (take (turn .size) (turn .word)) (turn .inv .5) _ _ (rule-here _ _ _ _ _ _ (sym
+    (c .before .before .before .draw .ensures) ∙ c .before .found2 .given .1))
 
 add-rules : tie.Need-add-rules Inv-loop μ-loop
 add-rules c = let few = rule-of c .2 in omega arith
@@ -149,7 +191,9 @@ returns-2 : tie.Need-returns-2 Inv-loop μ-loop
 returns-2 c =
     let a = c .before .before .before .before .before .before .before .before .args in
     let turn = c .before .before .before .before .loop in
-    rw (← walking-end (a .table .now) (a .sheet .now) (a .word .now) (turn .at) (turn .next) (turn .rules) (turn .opened) (take (turn .size) (turn .word)) (turn .inv .5) (end-here _ (sym (c .before .before .draw .ensures) ∙ c .enum-told .given .1))) (refl, turn .inv .3)
+    rw (← walking-end (a .table .now) (a .sheet .now) (a .word .now) (turn .at) (turn .next) (turn .rules)
+    (turn .opened) (take (turn .size) (turn .word)) (turn .inv .5) (end-here _ (sym
+    (c .before .before .draw .ensures) ∙ c .enum-told .given .1))) (refl, turn .inv .3)
 
 enum-told-2 : tie.Need-enum-told-2 Inv-loop μ-loop
 enum-told-2 c = search needs

@@ -26,11 +26,15 @@ enum-told : tie.Need-enum-told Inv-loop μ-loop
 enum-told c = search needs
 
 group-of : (c : tie.After-enum-told Inv-loop μ-loop)
-    → Counting (c .before .before .before .before .before .before .args .sheet .now) (c .before .before .before .before .loop .at + 6) (c .before .before .before .before .loop .count + 1)
-    × (c .before .before .before .before .loop .at + 6 ≤ length (c .before .before .before .before .before .before .args .sheet .now)) × (c .before .before .before .before .loop .count < 16)
+    → Counting (c .before .before .before .before .before .before .args .sheet .now)
+    (c .before .before .before .before .loop .at + 6) (c .before .before .before .before .loop .count + 1)
+    × (c .before .before .before .before .loop .at + 6 ≤ length
+    (c .before .before .before .before .before .before .args .sheet .now)) ×
+    (c .before .before .before .before .loop .count < 16)
 group-of c =
     let turn = c .before .before .before .before .loop in
-    counting-group (c .before .before .before .before .before .before .args .sheet .now) (turn .at) (turn .count) (turn .inv .2) _ (group-here _ _ (sym (c .before .before .draw .ensures) ∙ c .enum-told .given .1))
+    counting-group (c .before .before .before .before .before .before .args .sheet .now) (turn .at) (turn .count)
+    (turn .inv .2) _ (group-here _ _ (sym (c .before .before .draw .ensures) ∙ c .enum-told .given .1))
 
 add-count : tie.Need-add-count Inv-loop μ-loop
 add-count c = let few = group-of c .2 in omega arith
@@ -48,8 +52,13 @@ enum-known-found : tie.Need-enum-known-found Inv-loop μ-loop
 enum-known-found c = search needs
 
 rule-of : (c : tie.After-known-told Inv-loop μ-loop)
-    → Counting (c .before .before .before .before .before .before .before .args .sheet .now) (c .before .before .before .before .before .loop .at + (8 + c .before .found .given .0 .1 .1 .1 .0 + c .before .found .given .0 .1 .1 .1 .1 .0)) (c .before .before .before .before .before .loop .count)
-    × (c .before .before .before .before .before .loop .at + (8 + c .before .found .given .0 .1 .1 .1 .0 + c .before .found .given .0 .1 .1 .1 .1 .0) ≤ length (c .before .before .before .before .before .before .before .args .sheet .now))
+    → Counting (c .before .before .before .before .before .before .before .args .sheet .now)
+    (c .before .before .before .before .before .loop .at +
+    (8 + c .before .found .given .0 .1 .1 .1 .0 + c .before .found .given .0 .1 .1 .1 .1 .0))
+    (c .before .before .before .before .before .loop .count)
+    × (c .before .before .before .before .before .loop .at +
+    (8 + c .before .found .given .0 .1 .1 .1 .0 + c .before .found .given .0 .1 .1 .1 .1 .0) ≤ length
+    (c .before .before .before .before .before .before .before .args .sheet .now))
 rule-of c =
     let turn = c .before .before .before .before .before .loop in
     counting-rule (c .before .before .before .before .before .before .before .args .sheet .now) (turn .at) (turn .count) (turn .inv .2) _ _
@@ -76,7 +85,8 @@ enum-told-2 c = search needs
 returns : tie.Need-returns Inv-loop μ-loop
 returns c =
     let turn = c .before .before .before .before .loop in
-    counting-end (c .before .before .before .before .before .before .args .sheet .now) (turn .at) (turn .count) (turn .inv .2) (end-here _ (sym (c .before .before .draw .ensures) ∙ c .enum-told2 .given .1))
+    counting-end (c .before .before .before .before .before .before .args .sheet .now) (turn .at) (turn .count)
+    (turn .inv .2) (end-here _ (sym (c .before .before .draw .ensures) ∙ c .enum-told2 .given .1))
 
 enum-told-3 : tie.Need-enum-told-3 Inv-loop μ-loop
 enum-told-3 c = search needs
@@ -86,14 +96,16 @@ returns-2 c =
     let turn = c .before .before .before .before .loop in
     let state = turn .inv .2 in
     absurd
-    (never-alone (c .before .before .before .before .before .before .args .sheet .now) (turn .at) (turn .count) (state .rules) (state .list) (state .more) (state .holds)
+    (never-alone (c .before .before .before .before .before .before .args .sheet .now) (turn .at) (turn .count)
+    (state .rules) (state .list) (state .more) (state .holds)
     (fault-here _ (sym (c .before .before .draw .ensures) ∙ c .enum-told3 .given .1)))
 
 returns-3 : tie.Need-returns-3 Inv-loop μ-loop
 returns-3 c =
     let turn = c .before .loop in
     let state = turn .inv .2 in
-    let short = never-over (c .before .before .before .args .sheet .now) (turn .at) (turn .count) (state .rules) (state .list) (state .more) (state .holds) in
+    let short = never-over (c .before .before .before .args .sheet .now) (turn .at) (turn .count) (state .rules)
+    (state .list) (state .more) (state .holds) in
     absurd (omega (arith, c .loop-test .left))
 
 pub group-count-spec : {M : Type 1} → statement M

@@ -46,13 +46,16 @@ loop-holds c =
     let count = c .before .before .before .before .before .before .args .groups in
     let counted = pre .1 .1 .0 in
     let room = long ∙ pre .1 .1 .1 in
-    let fits : 4 * count ≤ length (c .before .before .before .before .before .before .args .table .now) = omega (arith, counted, roots-fit (groupsOf sheet), pre .1 .1 .1) in (
+    let fits : 4 * count ≤ length (c .before .before .before .before .before .before .args .table .now) = omega
+    (arith, counted, roots-fit (groupsOf sheet), pre .1 .1 .1) in (
       omega arith,
       omega arith,
       omega arith,
       omega arith,
       omega (arith, small-table sheet (pre .0), room),
-      going-start sheet _ count (pre .0) (pre .1 .0) counted (rw cleared (zeros-front (4 * count) (length (c .before .before .before .before .before .before .args .table .now)) fits)) (omega (arith, fits, long)) room,
+      going-start sheet _ count (pre .0) (pre .1 .0) counted (rw cleared (zeros-front (4 * count) (length
+          (c .before .before .before .before .before .before .args .table .now)) fits)) (omega
+          (arith, fits, long)) room,
     )
 
 draw-requires : tie.Need-draw-requires Inv-loop μ-loop
@@ -63,7 +66,9 @@ enum-told c = search needs
 
 group-of : (c : tie.After-enum-told Inv-loop μ-loop)
     → Going (c .before .before .before .before .before .before .before .before .before .before .before .args .sheet .now) (c .before .before .before .before .loop .table) (c .before .before .before .before .loop .at + 6) (c .before .before .before .before .loop .next) (c .before .before .before .before .loop .next + 1) (c .before .before .before .before .loop .rules) (c .before .before .before .before .loop .count)
-    × (c .before .before .before .before .loop .at + 6 ≤ length (c .before .before .before .before .before .before .before .before .before .before .before .args .sheet .now)) × (c .before .before .before .before .loop .next < 16)
+    × (c .before .before .before .before .loop .at + 6 ≤ length
+    (c .before .before .before .before .before .before .before .before .before .before .before .args .sheet .now)) ×
+    (c .before .before .before .before .loop .next < 16)
 group-of c =
     let turn = c .before .before .before .before .loop in
     going-group (c .before .before .before .before .before .before .before .before .before .before .before .args .sheet .now) (turn .table) (turn .at) (turn .root) (turn .next) (turn .rules) (turn .count) (turn .inv .5) _
@@ -88,11 +93,14 @@ enum-known-found : tie.Need-enum-known-found Inv-loop μ-loop
 enum-known-found c = search needs
 
 rule-of : (c : tie.After-known-told Inv-loop μ-loop)
-    → RuleHere (drop (c .before .before .before .before .before .loop .at) (c .before .before .before .before .before .before .before .before .before .before .before .before .args .sheet .now)) (c .before .found .given .0 .1 .1 .1 .0) (c .before .found .given .0 .1 .1 .1 .1 .0)
+    → RuleHere (drop (c .before .before .before .before .before .loop .at)
+    (c .before .before .before .before .before .before .before .before .before .before .before .before .args .sheet .now)) (c .before .found .given .0 .1 .1 .1 .0) (c .before .found .given .0 .1 .1 .1 .1 .0)
 rule-of c = (rule-here _ _ _ _ _ _ (sym (c .before .before .before .draw .ensures) ∙ c .before .found .given .1))
 
 inside-of : (c : tie.After-known-told Inv-loop μ-loop)
-    → (c .before .before .before .before .before .loop .at + (8 + c .before .found .given .0 .1 .1 .1 .0 + c .before .found .given .0 .1 .1 .1 .1 .0) ≤ length (c .before .before .before .before .before .before .before .before .before .before .before .before .args .sheet .now))
+    → (c .before .before .before .before .before .loop .at +
+    (8 + c .before .found .given .0 .1 .1 .1 .0 + c .before .found .given .0 .1 .1 .1 .1 .0) ≤ length
+    (c .before .before .before .before .before .before .before .before .before .before .before .before .args .sheet .now))
     × (c .before .before .before .before .before .loop .rules < 128)
 inside-of c =
     let turn = c .before .before .before .before .before .loop in
@@ -148,7 +156,8 @@ loop-again-2 c =
       turn .inv .2,
       omega (arith, inside .1),
       omega (arith, kept, turn .inv .4),
-      going-rule sheet (turn .table) (turn .at) (turn .root) (turn .next) (turn .rules) (turn .count) (turn .inv .5) s1 _ (rule-of (c .before .before .before .before .before)) _ _
+      going-rule sheet (turn .table) (turn .at) (turn .root) (turn .next) (turn .rules) (turn .count)
+          (turn .inv .5) s1 _ (rule-of (c .before .before .before .before .before)) _ _
           (rw size at (laid .0)) (rw size at (laid .1)),
     )
 
@@ -156,7 +165,8 @@ enum-told-2 : tie.Need-enum-told-2 Inv-loop μ-loop
 enum-told-2 c = search needs
 
 same-length : tie.Need-same-length Inv-loop μ-loop
-same-length c = c .before .before .before .before .loop .inv .5 .room ∙ sym (c .before .before .before .before .before .before .before .before .before .before .before .pre .1 .1 .1)
+same-length c = c .before .before .before .before .loop .inv .5 .room
+    ∙ sym (c .before .before .before .before .before .before .before .before .before .before .before .pre .1 .1 .1)
 
 returns : tie.Need-returns Inv-loop μ-loop
 returns c =
@@ -168,7 +178,8 @@ enum-told-3 : tie.Need-enum-told-3 Inv-loop μ-loop
 enum-told-3 c = search needs
 
 same-length-2 : tie.Need-same-length-2 Inv-loop μ-loop
-same-length-2 c = c .before .before .before .before .loop .inv .5 .room ∙ sym (c .before .before .before .before .before .before .before .before .before .before .before .pre .1 .1 .1)
+same-length-2 c = c .before .before .before .before .loop .inv .5 .room
+    ∙ sym (c .before .before .before .before .before .before .before .before .before .before .before .pre .1 .1 .1)
 
 returns-2 : tie.Need-returns-2 Inv-loop μ-loop
 returns-2 c =
@@ -185,7 +196,8 @@ returns-3 : tie.Need-returns-3 Inv-loop μ-loop
 returns-3 c =
     let turn = c .before .loop in
     let state = turn .inv .5 in
-    let short = never-over (c .before .before .before .before .before .before .before .before .args .sheet .now) (turn .at) (turn .next) (turn .rules) (state .list) (state .more) (state .holds) in
+    let short = never-over (c .before .before .before .before .before .before .before .before .args .sheet .now)
+    (turn .at) (turn .next) (turn .rules) (state .list) (state .more) (state .holds) in
     absurd (omega (arith, c .loop-test .left))
 
 pub lay-spec : {M : Type 1} → statement M

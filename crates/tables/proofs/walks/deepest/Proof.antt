@@ -55,7 +55,8 @@ returns c =
     let more = c .before .before .before .before .loop-test .taken in
     let last = c .before .before .wide .ensures in
     let stepped = c .before .child .ensures .0 in
-    sym (turn .inv .0 ∙ turn-missing (a .table .now) (a .word .now) (turn .at) (turn .found) (turn .left) _ _ more (turn .inv .2) last stepped (c .if1 .taken))
+    sym (turn .inv .0 ∙ turn-missing (a .table .now) (a .word .now) (turn .at) (turn .found) (turn .left) _ _ more
+    (turn .inv .2) last stepped (c .if1 .taken))
 
 mul-number-at-2 : tie.Need-mul-number-at-2 Inv-loop μ-loop
 mul-number-at-2 c = omega arith

@@ -41,7 +41,8 @@ returns c =
     let more = c .before .before .before .before .loop-test .taken in
     let last = c .before .before .wide .ensures in
     let stepped = c .before .child .ensures .0 in
-    let nowhere = reached-end (a .table .now) (a .root) (a .ending .now) (turn .at) (turn .left) _ _ more (turn .inv .2) last stepped (turn .inv .0) (c .if1 .taken) in
+    let nowhere = reached-end (a .table .now) (a .root) (a .ending .now) (turn .at) (turn .left) _ _ more
+    (turn .inv .2) last stepped (turn .inv .0) (c .if1 .taken) in
     sym (held-nowhere (a .table .now) (a .root) (a .ending .now) (turn .left - 1) nowhere)
 
 loop-less : tie.Need-loop-less Inv-loop μ-loop
@@ -54,7 +55,8 @@ loop-again c =
     let more = c .before .before .before .before .loop-test .taken in
     let last = c .before .before .wide .ensures in
     let stepped = c .before .child .ensures in (
-      reached-on (a .table .now) (a .root) (a .ending .now) (turn .at) (turn .left) _ _ more (turn .inv .2) last (stepped .0) (turn .inv .0) (c .if1 .left),
+      reached-on (a .table .now) (a .root) (a .ending .now) (turn .at) (turn .left) _ _ more (turn .inv .2) last
+          (stepped .0) (turn .inv .0) (c .if1 .left),
       stepped .1,
       omega arith,
     )
@@ -72,7 +74,8 @@ returns-2 : tie.Need-returns-2 Inv-loop μ-loop
 returns-2 c =
     let a = c .before .before .before .before .before .args in
     let turn = c .before .before .loop in
-    c .number-at .ensures .0 ∙ held-reached (a .table .now) (a .root) (a .ending .now) (turn .at) (turn .left) (c .before .loop-test .left) (turn .inv .0)
+    c .number-at .ensures .0 ∙ held-reached (a .table .now) (a .root) (a .ending .now) (turn .at) (turn .left)
+    (c .before .loop-test .left) (turn .inv .0)
 
 pub held-at-spec : {M : Type 1} → statement M
 held-at-spec =

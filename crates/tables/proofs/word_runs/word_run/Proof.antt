@@ -42,7 +42,8 @@ returns-3 : tie.Need-returns-3
 returns-3 c =
     let a = c .before .before .before .before .before .before .before .before .args in
     let reading = walkWord (a .table .now) (groupsOf (a .sheet .now)) in
-    ran-letter reading (a .word .now) (c .before .before .before .before .if1 .left) (c .before .before .before .if2 .left) _ (c .before .first-other .ensures) (c .if3 .taken)
+    ran-letter reading (a .word .now) (c .before .before .before .before .if1 .left)
+    (c .before .before .before .if2 .left) _ (c .before .first-other .ensures) (c .if3 .taken)
 
 slice-aggregate-copy-in : tie.Need-slice-aggregate-copy-in
 slice-aggregate-copy-in c = search needs
@@ -60,7 +61,8 @@ fill-requires : tie.Need-fill-requires
 fill-requires c κs =
     let a = c .before .before .before .before .before .before .before .before .before .before .before .before .before .before .before .before .before .before .before .before .args in
     let reading = walkWord (a .table .now) (groupsOf (a .sheet .now)) in
-    left-of (reading (a .word .now)) _ _ _ (c .before .before .before .before .before .before .walk-groups .ensures) (c .before .before .walked .given .1) .within
+    left-of (reading (a .word .now)) _ _ _ (c .before .before .before .before .before .before .walk-groups .ensures)
+    (c .before .before .walked .given .1) .within
 
 enum-told : tie.Need-enum-told
 enum-told c = search needs
@@ -69,11 +71,13 @@ array-share-prefix-saved : tie.Need-array-share-prefix-saved
 array-share-prefix-saved c = search needs
 
 slice-aggregate-copy-in-2 : tie.Need-slice-aggregate-copy-in-2
-slice-aggregate-copy-in-2 c = sym (length-take-le (length (c .before .before .before .before .before .before .before .before .before .before .before .before .before .before .before .before .before .before .before .before .args .word .now)) (c .before .before .before .before .before .before .before .before .before .copy-in .last .0) (omega (arith, c .before .before .before .before .before .before .before .before .before .copy-in .kept .0, c .before .before .before .before .before .before .before .before .before .before .before .before .before .before .before .if2 .left)))
+slice-aggregate-copy-in-2 c = sym (length-take-le (length
+    (c .before .before .before .before .before .before .before .before .before .before .before .before .before .before .before .before .before .before .before .before .args .word .now)) (c .before .before .before .before .before .before .before .before .before .copy-in .last .0) (omega (arith, c .before .before .before .before .before .before .before .before .before .copy-in .kept .0, c .before .before .before .before .before .before .before .before .before .before .before .before .before .before .before .if2 .left)))
 
 copy-in-requires-2 : tie.Need-copy-in-requires-2
 copy-in-requires-2 c κs =
-    let long = length-take-le (length (c .before .before .before .before .before .before .before .before .before .before .before .before .before .before .before .before .before .before .before .before .args .word .now)) (c .before .before .before .before .before .before .before .before .before .copy-in .last .0) (omega (arith, c .before .before .before .before .before .before .before .before .before .copy-in .kept .0, c .before .before .before .before .before .before .before .before .before .before .before .before .before .before .before .if2 .left)) in
+    let long = length-take-le (length
+    (c .before .before .before .before .before .before .before .before .before .before .before .before .before .before .before .before .before .before .before .before .args .word .now)) (c .before .before .before .before .before .before .before .before .before .copy-in .last .0) (omega (arith, c .before .before .before .before .before .before .before .before .before .copy-in .kept .0, c .before .before .before .before .before .before .before .before .before .before .before .before .before .before .before .if2 .left)) in
     omega (arith, long, c .before .before .before .before .before .before .walk-groups .kept .1 .1 .0)
 
 same-length-2 : tie.Need-same-length-2
@@ -83,9 +87,14 @@ returns-4 : tie.Need-returns-4
 returns-4 c =
     let a = c .before .before .before .before .before .before .before .before .before .before .before .before .before .before .before .before .before .before .before .before .before .before .before .args in
     let reading = walkWord (a .table .now) (groupsOf (a .sheet .now)) in
-    let left = left-of (reading (a .word .now)) _ _ _ (c .before .before .before .before .before .before .before .before .before .walk-groups .ensures) (c .before .before .before .before .before .walked .given .1) in
-    let filled = placed-letters (a .word .now) (left .stem) _ _ _ (left .letters) (left .within) (c .before .before .before .before .before .before .before .before .before .walk-groups .kept .1 .1 .0) (c .before .before .fill .ensures) in
-    ran-done reading (a .word .now) (c .before .before .before .before .before .before .before .before .before .before .before .before .before .before .before .before .before .before .before .if1 .left) (c .before .before .before .before .before .before .before .before .before .before .before .before .before .before .before .before .before .before .if2 .left) _ (c .before .before .before .before .before .before .before .before .before .before .before .before .before .before .before .before .first-other .ensures) (c .before .before .before .before .before .before .before .before .before .before .before .before .before .before .before .if3 .left) (left .stem) _ _ (left .is-done) (filled .1) (filled .0)
+    let left = left-of (reading (a .word .now)) _ _ _
+    (c .before .before .before .before .before .before .before .before .before .walk-groups .ensures)
+    (c .before .before .before .before .before .walked .given .1) in
+    let filled = placed-letters (a .word .now) (left .stem) _ _ _ (left .letters) (left .within)
+    (c .before .before .before .before .before .before .before .before .before .walk-groups .kept .1 .1 .0)
+    (c .before .before .fill .ensures) in
+    ran-done reading (a .word .now)
+    (c .before .before .before .before .before .before .before .before .before .before .before .before .before .before .before .before .before .before .before .if1 .left) (c .before .before .before .before .before .before .before .before .before .before .before .before .before .before .before .before .before .before .if2 .left) _ (c .before .before .before .before .before .before .before .before .before .before .before .before .before .before .before .before .first-other .ensures) (c .before .before .before .before .before .before .before .before .before .before .before .before .before .before .before .if3 .left) (left .stem) _ _ (left .is-done) (filled .1) (filled .0)
 
 same-length-3 : tie.Need-same-length-3
 same-length-3 c = search needs
@@ -94,9 +103,13 @@ returns-5 : tie.Need-returns-5
 returns-5 c =
     let a = c .before .before .before .before .before .before .before .before .before .before .before .before .before .before .before .before .before .before .before .before .before .before .before .args in
     let reading = walkWord (a .table .now) (groupsOf (a .sheet .now)) in
-    let out = outgrown-of (reading (a .word .now)) _ _ (c .before .before .before .before .before .before .before .before .before .walk-groups .ensures) (c .before .before .before .before .before .enum-told .given .1) in
-    let back = word-back (a .word .now) _ _ _ _ _ refl (omega arith) (c .before .before .before .before .before .before .before .before .before .before .before .before .copy-in .ensures) (c .before .before .before .before .before .before .before .before .before .walk-groups .kept .1 .1 .0) (c .before .before .copy-in2 .ensures) in
-    ran-longer reading (a .word .now) (c .before .before .before .before .before .before .before .before .before .before .before .before .before .before .before .before .before .before .before .if1 .left) (c .before .before .before .before .before .before .before .before .before .before .before .before .before .before .before .before .before .before .if2 .left) _ (c .before .before .before .before .before .before .before .before .before .before .before .before .before .before .before .before .first-other .ensures) (c .before .before .before .before .before .before .before .before .before .before .before .before .before .before .before .if3 .left) _ out back
+    let out = outgrown-of (reading (a .word .now)) _ _
+    (c .before .before .before .before .before .before .before .before .before .walk-groups .ensures)
+    (c .before .before .before .before .before .enum-told .given .1) in
+    let back = word-back (a .word .now) _ _ _ _ _ refl (omega arith)
+    (c .before .before .before .before .before .before .before .before .before .before .before .before .copy-in .ensures) (c .before .before .before .before .before .before .before .before .before .walk-groups .kept .1 .1 .0) (c .before .before .copy-in2 .ensures) in
+    ran-longer reading (a .word .now)
+    (c .before .before .before .before .before .before .before .before .before .before .before .before .before .before .before .before .before .before .before .if1 .left) (c .before .before .before .before .before .before .before .before .before .before .before .before .before .before .before .before .before .before .if2 .left) _ (c .before .before .before .before .before .before .before .before .before .before .before .before .before .before .before .before .first-other .ensures) (c .before .before .before .before .before .before .before .before .before .before .before .before .before .before .before .if3 .left) _ out back
 
 pub word-run-spec : {M : Type 1} → statement M
 word-run-spec =
