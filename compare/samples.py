@@ -116,6 +116,7 @@ TABLES = [
     ((RUN, SHEET_19, TABLE_19, b"cats"), (0, 3, b"cat ")),
     ((RUN, SHEET_19, TABLE_19 + [9], b"s"), (0, 0, b" ")),
     ((RUN, SHEET_19, TABLE_19[:-1], b"cats"), (7, 0, b"cats")),
+    ((RUN, SHEET_19, TABLE_19[:-1] + [2], b"cats"), (7, 0, b"cats")),
     ((RUN, SHEET_19, TABLE_EED, b""), (7, 0, b"")),
     ((RUN, SHEET_19 + b"\0", TABLE_EED, b""), (3, 15, b"")),
     ((RUN, SHEET_19, TABLE_19, b"1" * 65), (1, 0, b"1" * 65)),

@@ -68,14 +68,14 @@ pub fn run(sheet: &[u8], table: &[u16], word: &mut [u8]) -> Ran
         Translated::Refused(place) => Ran::Refused(place),
         Translated::Short => Ran::Table,
         Translated::Nodes(nodes) => {
-            let end = 4 * nodes;
-            if table.len() < end {
+            let size = 4 * nodes;
+            if table.len() < size {
                 return Ran::Table;
             }
-            if !same_numbers(&table[..end], &own[..end]) {
+            if !same_numbers(&table[..size], &own[..size]) {
                 return Ran::Table;
             }
-            word_run(sheet, &table[..end], word)
+            word_run(sheet, &table[..size], word)
         }
     }
 }

@@ -25,8 +25,8 @@ enum-told c = search needs
 enum-known-found-2 : tie.Need-enum-known-found-2
 enum-known-found-2 c = search needs
 
-mul-end : tie.Need-mul-end
-mul-end c =
+mul-size : tie.Need-mul-size
+mul-size c =
     let a = c .before .before .before .before .before .before .before .before .before .args in
     let is = run-accepted (a .sheet .now) _ (a .table .now) (a .word .now) _ (sym (c .before .found2 .given .1)
     ∙ c .before .before .before .before .translate .ensures .0) in
@@ -120,7 +120,7 @@ run-spec =
     enum-known-found
     enum-told
     enum-known-found-2
-    mul-end
+    mul-size
     returns
     slice-aggregate-same-numbers
     array-share-prefix-own
