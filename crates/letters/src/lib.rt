@@ -279,13 +279,13 @@ pub fn ends_with(word: &[u8], ending: &[u8]) -> bool
         return false;
     }
     let start = word.len() - n;
-    // From the last letter, which most often tells.
-    let mut left = n;
-    while 0 < left {
-        left -= 1;
-        if word[start + left] != ending[left] {
+    // From the first letter: a caller with an index by last letter knows the last already.
+    let mut i = 0;
+    while i < n {
+        if word[start + i] != ending[i] {
             return false;
         }
+        i += 1;
     }
     true
 }

@@ -10,6 +10,7 @@ pub mod TestLaws
 pub mod LettersLaws
 pub mod GroupsLaws
 pub mod ReadingLaws
+pub mod LongerFirst
 pub mod StepLaws
 pub mod LengthLaws
 pub mod WordsLaws

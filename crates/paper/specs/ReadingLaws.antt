@@ -234,37 +234,7 @@ pub same-fitting :
 unfolding obeyed chosen
 same-fitting word rules others e = rw e
 
--- ══ One rule more, as a loop over the rules goes ══
-
--- the longest ending so far, and the longest of this rule and those after it
-pub longest-more :
-    (word : List ℕ) (rule : Rule) (rules : List Rule) (most : ℕ)
-    → endsWith word (rule .ending) ≡ true
-    → most ≤ length (rule .ending)
-    → max (length (rule .ending)) (longest (fitting word rules)) ≡ max most (longest (fitting word (rule ∷ rules)))
-unfolding fitting which longest
-longest-more word rule rules most ends longer = rw ends (omega arith)
-
-pub longest-other :
-    (word : List ℕ) (rule : Rule) (rules : List Rule)
-    → endsWith word (rule .ending) ≡ false
-    → longest (fitting word rules) ≡ longest (fitting word (rule ∷ rules))
-unfolding fitting which longest
-longest-other word rule rules other = rw other
-
-pub longest-shorter :
-    (word : List ℕ) (rule : Rule) (rules : List Rule) (most : ℕ)
-    → length (rule .ending) ≤ most
-    → max most (longest (fitting word rules)) ≡ max most (longest (fitting word (rule ∷ rules)))
-unfolding fitting which longest
-longest-shorter word rule rules most shorter = go (endsWith word (rule .ending))
-  where
-    go :
-        (ends : Bool)
-        → max most (longest (fitting word rules))
-        ≡ max most (longest (cond ends (rule ∷ fitting word rules) (fitting word rules)))
-    go true = omega arith
-    go false = refl
+-- ══ One rule, as a loop over the rules goes ══
 
 -- what one test of a rule comes to
 pub obeys-size :

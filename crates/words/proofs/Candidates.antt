@@ -6,15 +6,15 @@ use mathlib.Core.Path.{_≡_, refl, ap, sym, _∙_}
 use mathlib.Core.Bool.{Bool, true, false, cond, _&&_, _||_}
 use mathlib.Core.List.{List, [], _∷_, _++_, map, reverse, append-assoc, reverse-append}
 use lib.Dec.{eqb, eqb·suc-zero}
-use mathlib.Core.Option.{Option}
 use lib.ListN.{length, take, drop, getD, length-append, length-reverse, List·getD-append}
 use lib.Seq.{getD-append-add, getD-at}
 use borrow.Author.Tests.{eq-eqb}
 use Rattle.paper.specs.Letters.{letterAt, inward}
-use Rattle.paper.specs.Groups.{Rule, Group, endsWith, before, which, first, fitting, longest, obeyed}
+use Rattle.paper.specs.Groups.{Rule, Group, same, endsWith, before, which, obeyed}
 use Rattle.paper.specs.TestLaws.{and-parts}
 use Rattle.paper.specs.GroupsLaws.{ends-split}
-use Rattle.paper.specs.ReadingLaws.{every, every-in, narrowed, same-fitting, obeys, obeyed-in-turn}
+use Rattle.paper.specs.ReadingLaws.{every, every-in, narrowed, same-fitting}
+use Rattle.paper.specs.LongerFirst.{keepsOrder, longerFirst, longerFirst-which}
 use Rattle.paper.specs.Words.{small}
 use Rattle.paper.specs.Shipped.{shipped}
 use Rattle.words.proofs.Joined.{starts-length, between}
@@ -132,19 +132,29 @@ last-letter part s1 h = rw (reverse-append part s1) (List·getD-append (reverse 
 tidy : Rule → Bool
 tidy rule = eqb (length (rule .ending)) 0 || small (letterAt 0 (rule .ending))
 
-groups-tidy : List Group → Bool
-groups-tidy [] = true
-groups-tidy (group ∷ groups) = every tidy (group .rules) && groups-tidy groups
+-- the rules of each group pass a test
+each : (List Rule → Bool) → List Group → Bool
+each test [] = true
+each test (group ∷ groups) = test (group .rules) && each test groups
 
-tidy-at : (g : ℕ) (groups : List Group) → groups-tidy groups ≡ true → every tidy (getD groups g noGroup .rules) ≡ true
-unfolding groups-tidy every noGroup
-tidy-at g [] t = refl
-tidy-at zero (group ∷ groups) t = and-parts (every tidy (group .rules)) (groups-tidy groups) t .0
-tidy-at (suc g) (group ∷ groups) t = tidy-at g groups (and-parts (every tidy (group .rules)) (groups-tidy groups) t .1)
+each-at :
+    (test : List Rule → Bool) (g : ℕ) (groups : List Group)
+    → test [] ≡ true
+    → each test groups ≡ true
+    → test (getD groups g noGroup .rules) ≡ true
+unfolding each noGroup
+each-at test g [] empty all = empty
+each-at test zero (group ∷ groups) empty all = and-parts (test (group .rules)) (each test groups) all .0
+each-at test (suc g) (group ∷ groups) empty all =
+    each-at test g groups empty (and-parts (test (group .rules)) (each test groups) all .1)
 
-shipped-tidy : groups-tidy shipped ≡ true
-unfolding groups-tidy every tidy letterAt inward shipped
+shipped-tidy : each (every tidy) shipped ≡ true
+unfolding each every tidy letterAt inward shipped
 shipped-tidy = refl
+
+shipped-ordered : each longerFirst shipped ≡ true
+unfolding each longerFirst keepsOrder every endsWith same shipped
+shipped-ordered = refl
 
 ends-may : (word : List ℕ) (c : ℕ) (one : Rule) → Column word c → tidy one ≡ true → endsWith word (one .ending) ≡ true → may (97 + c) one ≡ true
 unfolding may tidy
@@ -169,12 +179,18 @@ pub by-block :
     → Column word c
     → Block block (97 + c) (groupRules g)
     → obeyed word (map ruleAt block) ≡ obeyed word (groupRules g)
-unfolding groupRules
+unfolding groupRules every
 by-block word g c block column b =
     ap (obeyed word) (b .names)
     ∙ same-fitting word (which (may (97 + c)) (groupRules g)) (groupRules g)
     (narrowed word (may (97 + c)) (groupRules g)
-    (λ one m e. ends-may word c one column (every-in tidy (groupRules g) (tidy-at g shipped shipped-tidy) m) e))
+    (λ one m e. ends-may word c one column (every-in tidy (groupRules g) (each-at (every tidy) g shipped refl shipped-tidy) m) e))
+
+-- and in a block, as in a group, no ending is a tail of a longer one that stands later
+pub block-ordered : (g c : ℕ) (block : List ℕ) → Block block (97 + c) (groupRules g) → longerFirst (map ruleAt block) ≡ true
+unfolding groupRules longerFirst
+block-ordered g c block b =
+    rw (b .names) (longerFirst-which (may (97 + c)) (groupRules g) (each-at longerFirst g shipped refl shipped-ordered))
 
 -- ══ The index as the functions are lent it ══
 
@@ -209,13 +225,3 @@ indexed numbers-of places g c numbers-are places-are h k =
       within = here .within;
       block = rw (here .part) (block-at g c h k);
     })
-
--- the rule obeyed among the few is the rule obeyed in the group
-pub few-obeyed :
-    (word numbers-of : List ℕ) (g c : ℕ) (choice : Option Rule)
-    → Column word c
-    → Block numbers-of (97 + c) (groupRules g)
-    → choice ≡ first (obeys word (longest (fitting word (map ruleAt numbers-of)))) (map ruleAt numbers-of)
-    → choice ≡ obeyed word (groupRules g)
-few-obeyed word numbers-of g c choice column b e =
-    e ∙ sym (obeyed-in-turn word (map ruleAt numbers-of)) ∙ by-block word g c numbers-of column b

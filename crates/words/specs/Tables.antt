@@ -1,14 +1,15 @@
 -- The shipped rules column by column, computed from the list in `paper`: what the constant tables of `words` hold. Assumes
 -- nothing.
-use Prim.Native.Nat.{ℕ, zero, suc, _+_, _<_}
+use Prim.Native.Nat.{ℕ, zero, suc, _+_, _<_, _≤_}
 use mathlib.Core.Path.{_≡_}
 use mathlib.Core.Bool.{Bool, true, false, cond, _||_}
 use mathlib.Core.List.{List, [], _∷_, _++_, map}
 use mathlib.Core.Option.{Option, none, some}
 use lib.Dec.{eqb, ltb}
-use lib.ListN.{length, getD}
+use lib.ListN.{length, drop, getD}
 use Rattle.paper.specs.Letters.{letterAt, inward}
-use Rattle.paper.specs.Groups.{Action, replace, single-letter, Rule, Gate, always, if-opened, Group}
+use Rattle.paper.specs.Groups.{Action, replace, single-letter, Rule, Gate, always, if-opened, Group, endsWith, first}
+use Rattle.paper.specs.ReadingLaws.{obeys}
 use Rattle.paper.specs.Words.{small}
 use Rattle.paper.specs.Shipped.{shipped}
 
@@ -144,3 +145,15 @@ AllBelow n (k ∷ ks) = (k < n) × AllBelow n ks
 -- c is the column of a word: where its last byte is a small letter, that letter's
 abbrev pub Column : List ℕ → ℕ → Type 0
 Column word c = (c < 26) × (small (letterAt 0 word) ≡ true → 97 + c ≡ letterAt 0 word)
+
+-- the rule at this place of the candidates has an ending of n letters that ends the word
+abbrev pub EndsAt : List ℕ → ℕ → List ℕ → ℕ → Type 0
+EndsAt word n numbers-of i =
+    (endsWith word (ruleAt (getD numbers-of i 0) .ending) ≡ true) × (length (ruleAt (getD numbers-of i 0) .ending) ≡ n)
+
+-- r is the next such place from `from` on, and no rule between may be obeyed
+pub record NextSame (word : List ℕ) (n : ℕ) (numbers-of : List ℕ) (from r : ℕ) : Type 0 where
+  pub behind : from ≤ r
+  pub within : r ≤ length numbers-of
+  pub rest : first (obeys word n) (map ruleAt (drop r numbers-of)) ≡ first (obeys word n) (map ruleAt (drop from numbers-of))
+  pub ends-there : r < length numbers-of → EndsAt word n numbers-of r

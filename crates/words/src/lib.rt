@@ -19,11 +19,12 @@ ghost use Prim.Native.Nat.{ℕ, _+_, _-_, _*_, _<_, _≤_};
 ghost use lib.Dec.{eqb};
 ghost use lib.ListN.{length, take, drop, replicate};
 ghost use lib.Seq.{paste};
-ghost use Rattle.paper.specs.Groups.{done, endsWith, act, first, fitting, longest as longestOf, obeyed as obeyedOf, readGroup};
+ghost use Rattle.paper.specs.Groups.{done, endsWith, act, first, obeyed as obeyedOf, readGroup};
 ghost use Rattle.paper.specs.Words.{stem as stemOf};
 ghost use Rattle.paper.specs.ReadingLaws.{obeys};
+ghost use Rattle.paper.specs.LongerFirst.{longerFirst};
 ghost use Rattle.words.specs.Answer.{numberOf, valueOf, Gives};
-ghost use Rattle.words.specs.Tables.{AllBelow, Column, ruleAt, picked, written, isSingle, groupRules, replacementLetters, replacementStarts, endingLetters, endingStarts, conditionDigits, candidateNumbers, candidateStarts, gateDigits};
+ghost use Rattle.words.specs.Tables.{AllBelow, EndsAt, NextSame, Column, ruleAt, picked, written, isSingle, groupRules, replacementLetters, replacementStarts, endingLetters, endingStarts, conditionDigits, candidateNumbers, candidateStarts, gateDigits};
 
 pub enum Stemmed {
     // 0: done, with the length of the stem.
@@ -60,49 +61,35 @@ fn ends(word: &[u8], rule: usize, endings: &[u8], starts: &[u8]) -> bool
     letters::ends_with(word, &endings[from..to])
 }
 
-// The length of the longest ending of these rules that the word ends with.
-fn longest(word: &[u8], candidates: &[u8], endings: &[u8], starts: &[u8]) -> usize
+// The place of the next rule, from a place on, whose ending has so many letters and ends the word; how many rules there are
+// for none.
+fn next_same(
+    word: &[u8],
+    n: usize,
+    from: usize,
+    candidates: &[u8],
+    endings: &[u8],
+    starts: &[u8],
+) -> usize
     requires { ⌜ AllBelow 62 (now candidates) × ((now endings ≡ endingLetters) × (now starts ≡ endingStarts)) ⌝ }
-    ensures { λ r. ⌜ r ≡ longestOf (fitting (now (word .entry)) (map ruleAt (now (candidates .entry)))) ⌝ }
+    requires { ⌜ from ≤ length (now candidates) ⌝ }
+    ensures { λ r. ⌜ NextSame (now (word .entry)) n (now (candidates .entry)) from r ⌝ }
 {
-    let mut most = 0;
-    let mut i = 0;
+    let mut i = from;
     while i < candidates.len() {
         let rule = wide(candidates[i]);
-        let n = size(rule, starts);
-        if most < n {
+        if size(rule, starts) == n {
             if ends(word, rule, endings, starts) {
-                most = n;
+                return i;
             }
         }
         i += 1;
     }
-    most
+    i
 }
 
-// Whether a rule's ending has so many letters and ends the word, and its condition holds of the part before it.
-fn passes(
-    word: &[u8],
-    n: usize,
-    rule: usize,
-    endings: &[u8],
-    starts: &[u8],
-    conditions: &[u8],
-) -> bool
-    requires { ⌜ (rule < 62) × ((now endings ≡ endingLetters) × ((now starts ≡ endingStarts) × (now conditions ≡ conditionDigits))) ⌝ }
-    ensures { λ r. ⌜ r ≡ obeys (now (word .entry)) n (ruleAt rule) ⌝ }
-{
-    if size(rule, starts) != n {
-        return false;
-    }
-    if !ends(word, rule, endings, starts) {
-        return false;
-    }
-    let part = word.len() - n;
-    letters::holds(conditions[rule] - 48, &word[..part])
-}
-
-// The first of these rules that passes; 62 for none.
+// The first of these rules whose ending has so many letters and ends the word, as that of the first does, and whose condition
+// holds; 62 for none.
 fn obeyed(
     word: &[u8],
     n: usize,
@@ -111,16 +98,37 @@ fn obeyed(
     starts: &[u8],
     conditions: &[u8],
 ) -> usize
-    requires { ⌜ AllBelow 62 (now candidates) ⌝ }
+    requires { ⌜ AllBelow 62 (now candidates) × ((0 < length (now candidates)) × EndsAt (now word) n (now candidates) 0) ⌝ }
     requires { ⌜ (now endings ≡ endingLetters) × ((now starts ≡ endingStarts) × (now conditions ≡ conditionDigits)) ⌝ }
     ensures { λ r. ⌜ picked r ≡ first (obeys (now (word .entry)) n) (map ruleAt (now (candidates .entry))) ⌝ }
+    ensures { λ r. ⌜ r ≤ 62 ⌝ }
+{
+    let part = word.len() - n;
+    let mut i = 0;
+    while i < candidates.len() {
+        let rule = wide(candidates[i]);
+        if letters::holds(conditions[rule] - 48, &word[..part]) {
+            return rule;
+        }
+        i = next_same(word, n, i + 1, candidates, endings, starts);
+    }
+    62
+}
+
+// The rule that the word obeys of these; 62 for none. No ending among them is a tail of a longer one that stands later, so
+// the first that ends the word is the longest.
+fn among(word: &[u8], candidates: &[u8], endings: &[u8], starts: &[u8], conditions: &[u8]) -> usize
+    requires { ⌜ AllBelow 62 (now candidates) × (longerFirst (map ruleAt (now candidates)) ≡ true) ⌝ }
+    requires { ⌜ (now endings ≡ endingLetters) × ((now starts ≡ endingStarts) × (now conditions ≡ conditionDigits)) ⌝ }
+    ensures { λ r. ⌜ picked r ≡ obeyedOf (now (word .entry)) (map ruleAt (now (candidates .entry))) ⌝ }
     ensures { λ r. ⌜ r ≤ 62 ⌝ }
 {
     let mut i = 0;
     while i < candidates.len() {
         let rule = wide(candidates[i]);
-        if passes(word, n, rule, endings, starts, conditions) {
-            return rule;
+        if ends(word, rule, endings, starts) {
+            let n = size(rule, starts);
+            return obeyed(word, n, &candidates[i..], endings, starts, conditions);
         }
         i += 1;
     }
@@ -128,7 +136,7 @@ fn obeyed(
 }
 
 // The column of the index for a word: that of its last letter.
-fn column(word: &[u8]) -> usize
+fn column_of(word: &[u8]) -> usize
     ensures { λ r. ⌜ Column (now (word .entry)) r ⌝ }
 {
     let n = word.len();
@@ -148,6 +156,7 @@ fn column(word: &[u8]) -> usize
 // The rule of a group that the word obeys; 62 for none.
 fn choose(
     word: &[u8],
+    column: usize,
     group: usize,
     candidates: &[u8],
     blocks: &[u8],
@@ -157,18 +166,14 @@ fn choose(
 ) -> usize
     requires { ⌜ (group < 9) × ((now candidates ≡ candidateNumbers) × (now blocks ≡ candidateStarts)) ⌝ }
     requires { ⌜ (now endings ≡ endingLetters) × ((now starts ≡ endingStarts) × (now conditions ≡ conditionDigits)) ⌝ }
+    requires { ⌜ Column (now word) column ⌝ }
     ensures { λ r. ⌜ picked r ≡ obeyedOf (now (word .entry)) (groupRules group) ⌝ }
     ensures { λ r. ⌜ r ≤ 62 ⌝ }
 {
-    let at = 26 * group + column(word);
+    let at = 26 * group + column;
     let from = wide(blocks[at]);
     let to = wide(blocks[at + 1]);
-    if from == to {
-        return 62;
-    }
-    let few = &candidates[from..to];
-    let n = longest(word, few, endings, starts);
-    obeyed(word, n, few, endings, starts, conditions)
+    among(word, &candidates[from..to], endings, starts, conditions)
 }
 
 // Whether a rule leaves a single letter of two.
@@ -187,16 +192,26 @@ fn opens(rule: usize) -> bool
     OPENS[rule] == 49
 }
 
-// Writes letters into the word at a place.
+// Writes letters into the word at a place. Most of a replacement's letters stand there already.
 fn put(word: &mut [u8], at: usize, letters: &[u8])
     requires { ⌜ at + length (now letters) ≤ length (now word) ⌝ }
     ensures { λ _. ⌜ now (word .exit) ≡ paste (now (word .entry)) at (now (letters .entry)) (length (now (letters .entry))) ⌝ }
 {
     let mut i = 0;
     while i < letters.len() {
-        word[at + i] = letters[i];
+        if word[at + i] != letters[i] {
+            word[at + i] = letters[i];
+        }
         i += 1;
     }
+}
+
+// Whether a rule's replacement is empty.
+fn removes(rule: usize, starts: &[u8]) -> bool
+    requires { ⌜ (rule < 62) × (now starts ≡ replacementStarts) ⌝ }
+    ensures { λ r. ⌜ r ≡ eqb (length (written (ruleAt rule .action))) 0 ⌝ }
+{
+    starts[rule + 1] == starts[rule]
 }
 
 // Writes the replacement of a rule behind the part, and returns how many letters stand there then.
@@ -212,37 +227,39 @@ fn replace(word: &mut [u8], part: usize, rule: usize, replacements: &[u8], start
     part + (to - from)
 }
 
-// What obeying a rule leaves: so many letters, and whether the next group is opened.
-struct Left {
-    len: usize,
-    opened: bool,
-}
-
-// Obeys a rule whose ending stands behind the first `part` letters.
-fn obey(word: &mut [u8], part: usize, rule: usize) -> Left
+// Obeys a rule whose ending stands behind the first `part` letters, and returns how many letters stand there then.
+fn obey(word: &mut [u8], part: usize, rule: usize) -> usize
     requires { ⌜ (rule < 62) × (part ≤ length (now word)) ⌝ }
     requires { ⌜ part + length (written (ruleAt rule .action)) ≤ length (now word) ⌝ }
-    ensures { λ r. ⌜ take (r .len) (now (word .exit)) ≡ act (ruleAt rule .action) (take part (now (word .entry))) ⌝ }
-    ensures { λ r. ⌜ (r .len ≤ length (now (word .entry))) × (r .opened ≡ ruleAt rule .opens) ⌝ }
+    ensures { λ r. ⌜ take r (now (word .exit)) ≡ act (ruleAt rule .action) (take part (now (word .entry))) ⌝ }
+    ensures { λ r. ⌜ r ≤ length (now (word .entry)) ⌝ }
 {
-    let opened = opens(rule);
     if single(rule) {
         if part == 0 {
-            return Left { len: 0, opened };
+            return 0;
         }
-        return Left {
-            len: part - 1,
-            opened,
-        };
+        return part - 1;
     }
-    let len = replace(word, part, rule, &REPLACEMENTS, &REPLACEMENT_STARTS);
-    Left { len, opened }
+    let starts = &REPLACEMENT_STARTS;
+    // the letters of the replacements are not written to the stack for a rule that has none
+    if removes(rule, starts) {
+        return part;
+    }
+    replace(word, part, rule, &REPLACEMENTS, starts)
+}
+
+// What reading a group leaves: so many letters, the column of the last of them, and whether the next group is opened.
+struct Left {
+    len: usize,
+    column: usize,
+    opened: bool,
 }
 
 // Reads one group on the first `len` letters of the word's place.
 fn turn(
     word: &mut [u8],
     len: usize,
+    column: usize,
     group: usize,
     candidates: &[u8],
     blocks: &[u8],
@@ -252,14 +269,15 @@ fn turn(
 ) -> Left
     requires { ⌜ (group < 9) × ((now candidates ≡ candidateNumbers) × (now blocks ≡ candidateStarts)) ⌝ }
     requires { ⌜ (now endings ≡ endingLetters) × ((now starts ≡ endingStarts) × (now conditions ≡ conditionDigits)) ⌝ }
-    requires { ⌜ len ≤ length (now word) ⌝ }
+    requires { ⌜ (len ≤ length (now word)) × Column (take len (now word)) column ⌝ }
     requires { ⌜ length (readGroup (take len (now word)) (groupRules group) .word) ≤ length (now word) ⌝ }
     ensures { λ r. ⌜ take (r .len) (now (word .exit)) ≡ readGroup (take len (now (word .entry))) (groupRules group) .word ⌝ }
-    ensures { λ r. ⌜ r .len ≤ length (now (word .entry)) ⌝ }
+    ensures { λ r. ⌜ (r .len ≤ length (now (word .entry))) × Column (take (r .len) (now (word .exit))) (r .column) ⌝ }
     ensures { λ r. ⌜ r .opened ≡ readGroup (take len (now (word .entry))) (groupRules group) .opened ⌝ }
 {
     let rule = choose(
         &word[..len],
+        column,
         group,
         candidates,
         blocks,
@@ -268,10 +286,19 @@ fn turn(
         conditions,
     );
     if rule == 62 {
-        return Left { len, opened: false };
+        return Left {
+            len,
+            column,
+            opened: false,
+        };
     }
     let part = len - size(rule, starts);
-    obey(word, part, rule)
+    let left = obey(word, part, rule);
+    Left {
+        len: left,
+        column: column_of(&word[..left]),
+        opened: opens(rule),
+    }
 }
 
 // Reads all groups in the word's place, and returns the length of the stem that stands there then.
@@ -290,6 +317,8 @@ fn read(
     ensures { λ r. ⌜ r ≤ length (now (word .entry)) ⌝ }
 {
     let mut len = word.len();
+    // known until the word is changed
+    let mut column = column_of(&word[..]);
     let mut opened = false;
     let mut group = 0;
     while group < 9 {
@@ -297,6 +326,7 @@ fn read(
             let left = turn(
                 word,
                 len,
+                column,
                 group,
                 candidates,
                 blocks,
@@ -305,6 +335,7 @@ fn read(
                 conditions,
             );
             len = left.len;
+            column = left.column;
             opened = left.opened;
         } else {
             opened = false;

@@ -3,8 +3,9 @@ use Prim.Native.Nat.{_+_, _-_, _≤_}
 use native.Mathlib.Numerals.{add-one}
 use native.Mathlib.Omega.{arith}
 use mathlib.Core.Path.{_≡_, refl, ap, _∙_}
-use lib.ListN.{length, length-set}
-use lib.Seq.{paste, paste-zero, paste-suc}
+use mathlib.Core.Logic.{⊎-elim}
+use lib.ListN.{length, getD, set, length-set}
+use lib.Seq.{paste, paste-zero, paste-suc, set-getD}
 use Rattle.words.proofs.put.Statement.{statement}
 use Rattle.words.proofs.put.Tie as tie
 
@@ -17,6 +18,15 @@ abbrev μ-loop : tie.MeasureT-loop
 
 loop-holds : tie.Need-loop-holds Inv-loop μ-loop
 loop-holds c = (omega arith, c .pre, refl, paste-zero (c .args .word .now) (c .args .at) (c .args .letters .now))
+
+add-if1 : tie.Need-add-if1 Inv-loop μ-loop
+add-if1 c = omega arith
+
+slice-read-if1 : tie.Need-slice-read-if1 Inv-loop μ-loop
+slice-read-if1 c = omega arith
+
+shared-slice-read-if1 : tie.Need-shared-slice-read-if1 Inv-loop μ-loop
+shared-slice-read-if1 c = omega arith
 
 shared-slice-read-word : tie.Need-shared-slice-read-word Inv-loop μ-loop
 shared-slice-read-word c = omega arith
@@ -35,15 +45,17 @@ loop-less c = omega arith
 
 loop-again : tie.Need-loop-again Inv-loop μ-loop
 loop-again c =
-    let at = c .before .before .loop in
-    let s = c .before .before .before in
+    let at = c .before .before .before .before .loop in
+    let s = c .before .before .before .before .before in
     let word = s .args .word .now in
     let letters = s .args .letters .now in
-    let stored = paste-suc word (s .args .at) letters (at .i) 0 (omega arith) (omega arith) in (
+    let stored = paste-suc word (s .args .at) letters (at .i) 0 (omega arith) (omega arith) in
+    let written : c .if1 .word ≡ set (at .word) (s .args .at + at .i) (getD letters (at .i) 0) =
+    ⊎-elim (λ w. cc) (λ w. cc (set-getD (at .word) (s .args .at + at .i) 0)) (c .if1 .came) in (
       omega arith,
       at .inv .1,
-      simp length-set (at .inv .2),
-      rw (at .inv .3, add-one) stored,
+      rw written (simp length-set (at .inv .2)),
+      written ∙ (rw (at .inv .3, add-one) stored),
     )
 
 same-length : tie.Need-same-length Inv-loop μ-loop
@@ -63,6 +75,9 @@ put-spec =
     Inv-loop
     μ-loop
     loop-holds
+    add-if1
+    slice-read-if1
+    shared-slice-read-if1
     shared-slice-read-word
     add-word
     slice-write-word

@@ -16,7 +16,7 @@ slice-reshare-prefix-choose c = search needs
 
 slice-aggregate-choose : tie.Need-slice-aggregate-choose
 slice-aggregate-choose c = let s = c .before .before .before .before .before .before .before in sym (length-take-le
-    (s .args .len) (s .args .word .now) (s .pre .1 .1 .0))
+    (s .args .len) (s .args .word .now) (s .pre .1 .1 .0 .0))
 
 choose-requires : tie.Need-choose-requires
 choose-requires c κs = search needs
@@ -27,7 +27,7 @@ same-length c = search needs
 returns : tie.Need-returns
 returns c =
     let s = c .before .before .before .before .before .before .before .before .before in
-    let none = none-obeyed (s .args .word .now) (s .args .len) (s .pre .1 .1 .0) (groupRules (s .args .group))
+    let none = none-obeyed (s .args .word .now) (s .args .len) (s .pre .1 .1 .0 .0) (groupRules (s .args .group))
     (ap picked (sym (c .if1 .taken)) ∙ c .before .choose .ensures .0) in
     (sym (ap (λ (r : Result). r .word) none), (s .pre .1 .1 .0, sym (ap (λ (r : Result). r .opened) none)))
 
@@ -40,7 +40,7 @@ sub-part c =
     let place = s .args .word .now in
     let rule = c .before .before .choose .result in
     let known : rule < 62 = omega (arith, c .before .before .choose .ensures .1, c .before .if1 .left) in
-    let gave = one-obeyed place (s .args .len) (s .pre .1 .1 .0) (groupRules (s .args .group)) rule known (c .before .before .choose .ensures .0) in
+    let gave = one-obeyed place (s .args .len) (s .pre .1 .1 .0 .0) (groupRules (s .args .group)) rule known (c .before .before .choose .ensures .0) in
     omega (arith, gave .short, c .size .ensures)
 
 obey-requires : tie.Need-obey-requires
@@ -49,33 +49,41 @@ obey-requires c κs =
     let place = s .args .word .now in
     let rule = c .before .before .before .choose .result in
     let known : rule < 62 = omega (arith, c .before .before .before .choose .ensures .1, c .before .before .if1 .left) in
-    let gave = one-obeyed place (s .args .len) (s .pre .1 .1 .0) (groupRules (s .args .group)) rule known
+    let gave = one-obeyed place (s .args .len) (s .pre .1 .1 .0 .0) (groupRules (s .args .group)) rule known
     (c .before .before .before .choose .ensures .0) in
     let part : s .args .len - c .before .size .result ≡ s .args .len - length (ruleAt rule .ending) = omega (arith, c .before .size .ensures) in
     let result : length (act (ruleAt rule .action) (take (s .args .len - c .before .size .result) place)) ≤ length place
     = rw (part, ← gave .word) (s .pre .1 .1 .1) in
     ((known, omega arith), written-fits (ruleAt rule .action) place (s .args .len - c .before .size .result) (omega arith) result)
 
+slice-reshare-prefix-column-of : tie.Need-slice-reshare-prefix-column-of
+slice-reshare-prefix-column-of c = search needs
+
+slice-aggregate-column-of : tie.Need-slice-aggregate-column-of
+slice-aggregate-column-of c =
+    let obeyed = c .before .before .before .obey in
+    sym (length-take-le (obeyed .result) (obeyed .last .0) (omega (arith, obeyed .ensures .1, obeyed .kept .0)))
+
+column-of-requires : tie.Need-column-of-requires
+column-of-requires c κs = search needs
+
+opens-requires : tie.Need-opens-requires
+opens-requires c κs = search needs
+
 same-length-2 : tie.Need-same-length-2
 same-length-2 c = search needs
 
 returns-2 : tie.Need-returns-2
 returns-2 c =
-    let s = c .before .before .before .before .before .before .before .before .before .before .before .before .before .before in
+    let s = c .before .before .before .before .before .before .before .before .before .before .before .before .before .before .before .before .before in
     let place = s .args .word .now in
-    let rule = c .before .before .before .before .before .before .choose .result in
-    let known : rule < 62 = omega (
-      arith,
-      c .before .before .before .before .before .before .choose .ensures .1,
-      c .before .before .before .before .before .if1 .left,
-    ) in
-    let gave = one-obeyed place (s .args .len) (s .pre .1 .1 .0) (groupRules (s .args .group)) rule known
-    (c .before .before .before .before .before .before .choose .ensures .0) in
-    let part : s .args .len - c .before .before .before .before .size .result
-    ≡ s .args .len - length (ruleAt rule .ending) = omega
-    (arith, c .before .before .before .before .size .ensures) in (
-      c .before .before .obey .ensures .0 ∙ ap (λ (k : ℕ). act (ruleAt rule .action) (take k place)) part ∙ sym (gave .word),
-      (c .before .before .obey .ensures .1 .0, c .before .before .obey .ensures .1 .1 ∙ sym (gave .opened)),
+    let rule = c .before .before .before .before .before .before .before .before .before .choose .result in
+    let known : rule < 62 = omega (arith, c .before .before .before .before .before .before .before .before .before .choose .ensures .1, c .before .before .before .before .before .before .before .before .if1 .left) in
+    let gave = one-obeyed place (s .args .len) (s .pre .1 .1 .0 .0) (groupRules (s .args .group)) rule known (c .before .before .before .before .before .before .before .before .before .choose .ensures .0) in
+    let part : s .args .len - c .before .before .before .before .before .before .before .size .result ≡ s .args .len - length (ruleAt rule .ending) = omega (arith, c .before .before .before .before .before .before .before .size .ensures) in
+    let obeyed = c .before .before .before .before .before .obey in (
+      obeyed .ensures .0 ∙ ap (λ (k : ℕ). act (ruleAt rule .action) (take k place)) part ∙ sym (gave .word),
+      ((obeyed .ensures .1, c .before .column-of .ensures), c .opens .ensures ∙ sym (gave .opened)),
     )
 
 pub turn-spec : {M : Type 1} → statement M
@@ -90,5 +98,9 @@ turn-spec =
     size-requires
     sub-part
     obey-requires
+    slice-reshare-prefix-column-of
+    slice-aggregate-column-of
+    column-of-requires
+    opens-requires
     same-length-2
     returns-2)

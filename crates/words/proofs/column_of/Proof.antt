@@ -1,4 +1,4 @@
--- `words::column` meets its contract. Assumes nothing.
+-- `words::column_of` meets its contract. Assumes nothing.
 use Prim.Native.Nat.{ℕ, _-_, _≤_, _<_}
 use borrow.Author.Needs.{needs}
 use borrow.Author.Tests.{leb-true}
@@ -12,8 +12,8 @@ use Rattle.paper.specs.Letters.{letterAt, inward}
 use Rattle.paper.specs.LettersLaws.{letterAt-index}
 use Rattle.paper.specs.TestLaws.{and-parts}
 use Rattle.paper.specs.Words.{small}
-use Rattle.words.proofs.column.Statement.{statement}
-use Rattle.words.proofs.column.Tie as tie
+use Rattle.words.proofs.column_of.Statement.{statement}
+use Rattle.words.proofs.column_of.Tie as tie
 
 -- what a small letter is
 is-small : (letter : ℕ) → small letter ≡ true → (97 ≤ letter) × (letter ≤ 122)
@@ -57,7 +57,7 @@ returns-4 c =
     let s = c .before .before .before .before .before .before in
     (omega (arith, c .wide .ensures), λ e. omega (arith, c .wide .ensures, last-is (s .args .word .now) (omega arith)))
 
-pub column-spec : {M : Type 1} → statement M
-column-spec =
+pub column-of-spec : {M : Type 1} → statement M
+column-of-spec =
     tie.close
     (tie.spec returns sub-last shared-slice-read-last returns-2 returns-3 wide-requires returns-4)

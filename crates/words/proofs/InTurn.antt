@@ -1,0 +1,33 @@
+-- Candidates looked at in turn: the first of those from a place on that passes a test, as a loop over them goes. Assumes
+-- nothing.
+use Prim.Native.Nat.{ℕ, _+_, _<_}
+use native.Mathlib.Numerals.{add-one}
+use mathlib.Core.Path.{_≡_, ap}
+use mathlib.Core.Bool.{Bool, true, false}
+use mathlib.Core.List.{List, [], _∷_, map}
+use mathlib.Core.Option.{Option, some}
+use lib.ListN.{length, drop, getD}
+use lib.Seq.{drop-cons}
+use Rattle.paper.specs.Groups.{Rule, first}
+use Rattle.words.specs.Tables.{ruleAt}
+
+-- the rules of the candidates from this place on
+abbrev pub from-place : List ℕ → ℕ → List Rule
+from-place candidates i = map ruleAt (drop i candidates)
+
+pub here-and-next :
+    (candidates : List ℕ) (i : ℕ)
+    → i < length candidates
+    → from-place candidates i ≡ ruleAt (getD candidates i 0) ∷ from-place candidates (i + 1)
+here-and-next candidates i h = rw (add-one, drop-cons candidates i 0 h)
+
+module _ (test : Rule → Bool) (candidates : List ℕ) (i : ℕ) (h : i < length candidates) where
+  pub first-here :
+      test (ruleAt (getD candidates i 0)) ≡ true → first test (from-place candidates i) ≡ some (ruleAt (getD candidates i 0))
+  unfolding first
+  first-here pass = rw (here-and-next candidates i h, pass)
+
+  pub first-next :
+      test (ruleAt (getD candidates i 0)) ≡ false → first test (from-place candidates i) ≡ first test (from-place candidates (i + 1))
+  unfolding first
+  first-next fail = rw (here-and-next candidates i h, fail)
