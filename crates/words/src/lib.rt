@@ -17,8 +17,7 @@ ghost use mathlib.Core.Bool.{Bool, true, false, cond};
 ghost use mathlib.Core.List.{List, _++_, map};
 ghost use Prim.Native.Nat.{ℕ, _+_, _-_, _*_, _<_, _≤_};
 ghost use lib.Dec.{eqb};
-ghost use lib.ListN.{length, take, drop, replicate};
-ghost use lib.Seq.{paste};
+ghost use lib.ListN.{length, take, drop};
 ghost use Rattle.paper.specs.Groups.{done, endsWith, act, first, obeyed as obeyedOf, readGroup};
 ghost use Rattle.paper.specs.Words.{stem as stemOf};
 ghost use Rattle.paper.specs.ReadingLaws.{obeys};
@@ -192,20 +191,6 @@ fn opens(rule: usize) -> bool
     OPENS[rule] == 49
 }
 
-// Writes letters into the word at a place. Most of a replacement's letters stand there already.
-fn put(word: &mut [u8], at: usize, letters: &[u8])
-    requires { ⌜ at + length (now letters) ≤ length (now word) ⌝ }
-    ensures { λ _. ⌜ now (word .exit) ≡ paste (now (word .entry)) at (now (letters .entry)) (length (now (letters .entry))) ⌝ }
-{
-    let mut i = 0;
-    while i < letters.len() {
-        if word[at + i] != letters[i] {
-            word[at + i] = letters[i];
-        }
-        i += 1;
-    }
-}
-
 // Whether a rule's replacement is empty.
 fn removes(rule: usize, starts: &[u8]) -> bool
     requires { ⌜ (rule < 62) × (now starts ≡ replacementStarts) ⌝ }
@@ -223,7 +208,7 @@ fn replace(word: &mut [u8], part: usize, rule: usize, replacements: &[u8], start
 {
     let from = wide(starts[rule]);
     let to = wide(starts[rule + 1]);
-    put(word, part, &replacements[from..to]);
+    places::put(word, part, &replacements[from..to]);
     part + (to - from)
 }
 
@@ -345,18 +330,6 @@ fn read(
     len
 }
 
-// Fills the word's place with spaces behind the stem.
-fn fill(word: &mut [u8], stem: usize)
-    requires { ⌜ stem ≤ length (now word) ⌝ }
-    ensures { λ _. ⌜ now (word .exit) ≡ take stem (now (word .entry)) ++ replicate (length (now (word .entry)) - stem) 32 ⌝ }
-{
-    let mut i = stem;
-    while i < word.len() {
-        word[i] = 32;
-        i += 1;
-    }
-}
-
 // The stem of a word, in its own place: afterwards it stands first and spaces fill the rest, or the word is as it came.
 pub fn stem(word: &mut [u8]) -> Stemmed
     ensures { λ r. ⌜ Gives (now (word .entry)) r (now (word .exit)) ⌝ }
@@ -379,7 +352,7 @@ pub fn stem(word: &mut [u8]) -> Stemmed
         &ENDING_STARTS,
         &CONDITIONS,
     );
-    fill(word, len);
+    places::fill(word, len);
     Stemmed::Done(len)
 }
 

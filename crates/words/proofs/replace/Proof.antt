@@ -5,7 +5,8 @@ use native.Mathlib.Omega.{arith}
 use mathlib.Core.Path.{_≡_}
 use mathlib.Core.List.{List, _++_}
 use lib.ListN.{length, take, drop}
-use lib.Seq.{paste, take-paste, take-length}
+use lib.Seq.{take-paste, take-length}
+use Rattle.places.specs.Put.{putAt, put-fits}
 use Rattle.words.specs.Tables.{ruleAt, written}
 use Rattle.words.proofs.Columns.{replacement-row}
 use Rattle.words.proofs.replace.Statement.{statement}
@@ -15,11 +16,11 @@ use Rattle.words.proofs.replace.Tie as tie
 follows :
     (word after letters : List ℕ) (part k : ℕ)
     → part + length letters ≤ length word
-    → after ≡ paste word part letters (length letters)
+    → after ≡ putAt word part letters
     → k ≡ part + length letters
     → take k after ≡ take part word ++ letters
 follows word after letters part k fits e n =
-    rw (e, n, take-paste word part letters (length letters) (omega arith) (omega arith), take-length letters)
+    rw (e, put-fits word part letters fits, n, take-paste word part letters (length letters) (omega arith) (omega arith), take-length letters)
 
 shared-slice-read-wide : tie.Need-shared-slice-read-wide
 shared-slice-read-wide c =
@@ -66,17 +67,7 @@ part-put-end c =
     omega (arith, row .within, c .before .wide2 .ensures, c .before .before .before .wide .ensures)
 
 put-requires : tie.Need-put-requires
-put-requires c κs =
-    let s = c .before .before .before .before .before .before .before .before .before in
-    let row = replacement-row (s .args .rule) (s .args .replacements .now) (s .args .starts .now) (s .pre .0 .0)
-    (s .pre .0 .1 .0) (s .pre .0 .1 .1) in
-    let letters : take (c .before .before .wide2 .result - c .before .before .before .before .wide .result) (drop
-    (c .before .before .before .before .wide .result) (s .args .replacements .now))
-    ≡ written (ruleAt (s .args .rule) .action) = rw (
-      c .before .before .wide2 .ensures,
-      c .before .before .before .before .wide .ensures,
-    ) (row .part) in
-    rw letters (s .pre .1)
+put-requires c κs = search needs
 
 sub-result : tie.Need-sub-result
 sub-result c =
