@@ -14,6 +14,7 @@ pub mod SheetLaws
 pub mod ReadRecords
 pub mod ReadBack
 pub mod WriteBack
+pub mod MemberLaws
 pub mod LookBack
 pub mod NodeLaws
 pub mod SharedTails

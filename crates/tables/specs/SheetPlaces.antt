@@ -12,6 +12,7 @@ use lib.Seq.{drop-drop}
 use Rattle.paper.specs.Groups.{Rule, Gate, Group}
 use Rattle.sheets.specs.Records.{bodyLength, body, after, gate, rule, ending, cut, faultyAlone, faulty}
 use Rattle.sheets.specs.Sheets.{Rest, faulty-at, holding, ruleThen, groupThen, readRest, accepted, whole, readSheet}
+use Rattle.sheets.specs.Lists.{empty}
 use Rattle.sheets.specs.ByteLaws.{long, fitting, length-body, length-after}
 use Rattle.sheets.specs.RecordLaws.{GroupHere, RuleHere, EndHere}
 use Rattle.sheets.specs.RuleLaws.{sound, group-length, length-ending, length-replacement}
@@ -27,15 +28,11 @@ Holding sheet at groups rules list more = readRest (length (drop at sheet)) grou
 
 -- ## The start
 
-no-rules : (list : List Rule) → length list ≡ 0 → list ≡ []
-no-rules [] none = refl
-no-rules (one ∷ list) none = absurd (omega arith)
-
 from-start : {found : Rest} (sheet : List ℕ) (groups : List Group) → WrittenAs 0 0 sheet found
     → whole found ≡ accepted groups → found ≡ holding [] groups
 from-start sheet groups (not-read place) e = let z : _≡_ {A = ℕ} 0 1 = cc in absurd (omega arith)
 from-start sheet groups (is-read list found w) e =
-    let none = no-rules list (w .no-rule-first refl) in
+    let none = empty list (w .no-rule-first refl) in
     let same-groups : found ≡ groups = cc in
     rw (none, same-groups)
 
