@@ -20,6 +20,7 @@ pub mod NodeLaws
 pub mod SharedTails
 pub mod Earlier
 pub mod Finished
+pub mod PlaceLaws
 pub mod CheckLaws
 pub mod Correspondence
 pub mod Outcomes

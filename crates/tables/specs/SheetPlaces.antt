@@ -10,17 +10,17 @@ use borrow.Author.Tests.{ltb-true, ltb-false}
 use lib.ListN.{length, take, drop, getD, length-drop}
 use lib.Seq.{drop-drop}
 use Rattle.paper.specs.Groups.{Rule, Gate, always, if-opened, Group}
-use Rattle.sheets.specs.Records.{bodyLength, body, after, gate, rule, ending, cut, faulty}
+use Rattle.sheets.specs.Records.{bodyLength, body, after, gate, rule, ending, faulty}
 use Rattle.sheets.specs.Sheets.{Rest, faulty-at, holding, ruleThen, groupThen, readRest, accepted, whole, readSheet}
 use Rattle.sheets.specs.Lists.{empty}
-use Rattle.sheets.specs.ByteLaws.{long, fitting, length-body, length-after}
 use Rattle.sheets.specs.RecordLaws.{RuleHere, group-here, rule-here, end-here, fault-here}
 use Rattle.sheets.specs.Answers.{recordIn}
 use Rattle.sheets.specs.declared.records.Record.the-variants.{Group as GroupRecord, Rule as RuleRecord, End as EndRecord, Faulty as FaultyRecord}
-use Rattle.sheets.specs.RuleLaws.{sound, group-length, length-ending, length-replacement}
+use Rattle.sheets.specs.RuleLaws.{sound}
 use Rattle.sheets.specs.SheetLaws.{fault-alone, group-fault, rule-fault, fault-step, group-step, rule-step, end-step, enough, faulty-empty}
-use Rattle.sheets.specs.Earlier.{endingIn, ending-in}
-use Rattle.sheets.specs.ReadRecords.{rule-record, few-groups, few-rules}
+use Rattle.sheets.specs.Earlier.{endingIn}
+use Rattle.sheets.specs.ReadRecords.{few-groups, few-rules}
+use Rattle.sheets.specs.PlaceLaws.{group-size, rule-size, ending-read, group-inside, rule-inside, left}
 use Rattle.sheets.specs.WriteBack.{WrittenAs, not-read, is-read, rest-written}
 use Rattle.paper.specs.TestLaws.{by-test}
 
@@ -129,20 +129,6 @@ module _ {sheet : List ℕ} {at groups rules : ℕ} {list : List Rule} {more : L
   pub never-alone : recordIn rest ≡ FaultyRecord → ⊥
   never-alone e = false≢true (sym never-faulty ∙ fault-alone groups rules rest (fault-here rest e))
 
-  -- what is left after a record, as it is read
-  left : (groups′ rules′ next : ℕ) → next ≡ at + (4 + bodyLength rest)
-      → readRest (length rest) groups′ rules′ (at + (4 + bodyLength rest)) (after rest)
-      ≡ readRest (length (drop next sheet)) groups′ rules′ next (drop next sheet)
-  unfolding after
-  left groups′ rules′ next is =
-      let beyond : after rest ≡ drop next sheet = drop-drop (4 + bodyLength rest) at sheet ∙ ap (λ (k : ℕ). drop k sheet) (sym is) in
-      enough (length rest) (length (after rest)) groups′ rules′ (at + (4 + bodyLength rest)) (after rest) (omega
-      (arith, length-after rest)) (omega arith)
-      ∙ rw (beyond, is)
-
-  within : cut rest ≡ false → at + (4 + bodyLength rest) ≤ length sheet
-  within whole-record = omega (arith, long rest whole-record, fitting rest whole-record, length-drop at sheet)
-
   pub group-next : {number : ℕ} → recordIn rest ≡ GroupRecord number → GroupNext here number
   unfolding gate
   group-next {number} e =
@@ -151,39 +137,24 @@ module _ {sheet : List ℕ} {at groups rules : ℕ} {list : List Rule} {more : L
       let stepped = sym (group-step (length rest) groups rules at rest (is .whole) (is .is-group) (is .sound) placed) ∙ one-record in
       let found = after-group (gate (body rest)) (readRest (length rest) (suc groups) rules (at + (4 + bodyLength rest))
       (after rest)) list more stepped in
-      let size : bodyLength rest ≡ 2 = sym (length-body rest (is .whole)) ∙ group-length (body rest) (is .sound) in
+      let size = group-size is in
       let next : at + 6 ≡ at + (4 + bodyLength rest) = omega arith in
       record {
         rules-then = found .rules-then;
         groups-then = found .groups-then;
         gate-then = gate (body rest);
         gate-is = rw (is .gate-is);
-        holds = record { rest-is = rw (add-one groups) (sym (left (suc groups) rules (at + 6) next) ∙ found .rest-then) };
+        holds = record { rest-is = rw (add-one groups) (sym (left sheet at (suc groups) rules (at + 6) next) ∙ found .rest-then) };
         none-before = found .none-before;
         group-first = found .group-first;
-        inside = omega (arith, within (is .whole));
+        inside = group-inside sheet at is;
         few = few-groups groups (body rest) placed;
       }
-
-  rule-size : {s1 s2 : ℕ} → RuleHere rest s1 s2 → bodyLength rest ≡ 4 + (s1 + s2)
-  rule-size found =
-      let is = sound (body rest) (found .sound) in
-      omega (
-        arith,
-        length-body rest (found .whole),
-        length-ending (body rest) is,
-        length-replacement
-            (body rest),
-        found .ending-is,
-        found .replacement-is,
-        is .within,
-      )
 
   ending-slice : {s1 s2 : ℕ} → RuleHere rest s1 s2 → take s1 (drop (at + 8) sheet) ≡ rule (body rest) .ending
   unfolding endingIn rule
   ending-slice {s1} found =
-      let bytes = rule-record rest (found .whole) (found .is-rule) (found .sound) in
-      let read : endingIn rest ≡ rule (body rest) .ending = ap endingIn bytes ∙ ending-in (rule (body rest)) (after rest) in
+      let read = ending-read found in
       let long-as : s1 ≡ length (take (getD rest 7 0) (drop 8 rest)) = found .ending-is ∙ ap length (sym read) in
       let moved : drop 8 rest ≡ drop (at + 8) sheet = drop-drop 8 at sheet in
       rw (long-as, ← moved) (take-own (getD rest 7 0) (drop 8 rest) ∙ read)
@@ -201,9 +172,9 @@ module _ {sheet : List ℕ} {at groups rules : ℕ} {list : List Rule} {more : L
         one = rule (body rest);
         rules-then = found .rules-then;
         is-here = refl;
-        holds = record { rest-is = rw (add-one rules) (sym (left groups (suc rules) (at + (8 + s1 + s2)) next) ∙ found .rest-then) };
+        holds = record { rest-is = rw (add-one rules) (sym (left sheet at groups (suc rules) (at + (8 + s1 + s2)) next) ∙ found .rest-then) };
         rule-first = found .rule-first;
-        inside = omega (arith, within (is .whole));
+        inside = rule-inside sheet at is;
         few = few-rules groups rules placed;
         ending-here = ending-slice is;
       }
