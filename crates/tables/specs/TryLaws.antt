@@ -69,16 +69,15 @@ picked-none : (table : List ℕ) (root found : ℕ) (word : List ℕ) (number : 
 unfolding picked pick
 picked-none table root found word number list e = rw e
 
-picked-here : (table : List ℕ) (root found : ℕ) (word : List ℕ) (number : ℕ) (list : List Rule) (one : Rule) (more : List Rule) → list ≡ one ∷ more
-    → obeys table root found word number (one .condition) (one .ending) ≡ true → picked table root found word number list ≡ some one
-unfolding picked pick obeys
-picked-here table root found word number list one more e t = rw (e, t)
+module _ (table : List ℕ) (root found : ℕ) (word : List ℕ) (number : ℕ) (list : List Rule) (one : Rule) (more : List Rule) (split : list ≡ one ∷ more) where
+  picked-here : obeys table root found word number (one .condition) (one .ending) ≡ true → picked table root found word number list ≡ some one
+  unfolding picked pick obeys
+  picked-here t = rw (split, t)
 
-picked-next : (table : List ℕ) (root found : ℕ) (word : List ℕ) (number : ℕ) (list : List Rule) (one : Rule) (more : List Rule) → list ≡ one ∷ more
-    → obeys table root found word number (one .condition) (one .ending) ≡ false
-    → picked table root found word number list ≡ picked table root found word (suc number) more
-unfolding picked pick obeys
-picked-next table root found word number list one more e t = rw (e, t)
+  picked-next : obeys table root found word number (one .condition) (one .ending) ≡ false
+      → picked table root found word number list ≡ picked table root found word (suc number) more
+  unfolding picked pick obeys
+  picked-next t = rw (split, t)
 
 module _ {table : List ℕ} {root found : ℕ} {word sheet : List ℕ} {groups start first place rules : ℕ}
     (state : Trying table root found word sheet groups start first place rules) where

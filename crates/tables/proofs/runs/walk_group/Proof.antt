@@ -26,11 +26,8 @@ same-length c = search needs
 
 returns : tie.Need-returns
 returns c =
-    let a = c .before .before .before .before .before .before .args in
-    let rest = rulesOf (restAt (a .sheet .now) (a .at) (a .groups) (a .rules)) in
     let within = c .before .before .before .before .before .before .pre .1 .1 .1 .1 .1 in
-    step-none (a .table .now) (a .root) (a .rules + 1) (a .word .now) (a .size) rest (c .before .deepest .result) within
-    (c .before .deepest .ensures) (c .if1 .taken)
+    step-none _ _ _ _ _ _ _ within (c .before .deepest .ensures) (c .if1 .taken)
 
 slice-reshare-prefix-tried-at : tie.Need-slice-reshare-prefix-tried-at
 slice-reshare-prefix-tried-at c = search needs
@@ -48,13 +45,9 @@ same-length-2 c = search needs
 
 returns-2 : tie.Need-returns-2
 returns-2 c =
-    let a = c .before .before .before .before .before .before .before .before .before .args in
-    let rest = rulesOf (restAt (a .sheet .now) (a .at) (a .groups) (a .rules)) in
     let within = c .before .before .before .before .before .before .before .before .before .pre .1 .1 .1 .1 .1 in
-    step-turned-down (a .table .now) (a .root) (a .rules + 1) (a .word .now) (a .size) rest
-    (c .before .before .before .before .deepest .result) within
-    (c .before .before .before .before .deepest .ensures) (c .before .before .before .if1 .left)
-    (none-picked-as (a .sheet .now) _ _ _ _ _ _ (c .before .tried-at .ensures) (c .if2 .taken))
+    step-turned-down _ _ _ _ _ _ _ within (c .before .before .before .before .deepest .ensures) (c .before .before .before .if1 .left)
+    (none-picked-as _ _ _ _ _ _ _ (c .before .tried-at .ensures) (c .if2 .taken))
 
 -- a rule was picked, and so it is obeyed
 obeyed-of : (c : tie.Else2)
@@ -64,12 +57,9 @@ obeyed-of : (c : tie.Else2)
     (rulesOf (restAt (a .sheet .now) (a .at) (a .groups) (a .rules)))) (a .sheet .now) (a .word .now) (a .size)
     (rule .place) (rule .action) (rule .opens) (rule .ending) (rule .replacement))
 obeyed-of c =
-    let a = c .before .before .before .before .before .before .before .before .before .args in
-    let rest = rulesOf (restAt (a .sheet .now) (a .at) (a .groups) (a .rules)) in
     let within = c .before .before .before .before .before .before .before .before .before .pre .1 .1 .1 .1 .1 in
-    obeyed (a .table .now) (a .root) (a .rules + 1) (a .word .now) (a .size) rest
-    (c .before .before .before .before .deepest .result) within (c .before .before .before .before .deepest .ensures) (c .before .before .before .if1 .left)
-    (a .sheet .now) _ _ _ _ _ (some-picked-as (a .sheet .now) _ _ _ _ _ _ (c .before .tried-at .ensures) (c .if2 .left))
+    obeyed _ _ _ _ _ _ _ within (c .before .before .before .before .deepest .ensures) (c .before .before .before .if1 .left)
+    _ _ _ _ _ _ (some-picked-as _ _ _ _ _ _ _ (c .before .tried-at .ensures) (c .if2 .left))
 
 less-requires : tie.Need-less-requires
 less-requires c κs = search needs
