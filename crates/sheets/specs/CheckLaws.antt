@@ -6,23 +6,22 @@ use mathlib.Core.Bool.{true, false}
 use mathlib.Core.List.{List, [], _∷_, _++_}
 use native.Mathlib.Numerals.{add-one}
 use native.Mathlib.Omega.{arith}
-use lib.ListN.{length, drop, length-append, length-drop}
-use lib.Seq.{drop-drop}
+use lib.ListN.{length, drop, length-append}
 use Rattle.paper.specs.Groups.{Rule}
-use Rattle.sheets.specs.Records.{bodyLength, body, after, gate, rule, ending, cut, misplacedGroup, misplacedRule, faulty}
+use Rattle.sheets.specs.Records.{bodyLength, body, after, gate, rule, ending, misplacedGroup, misplacedRule, faulty}
 use Rattle.sheets.specs.Sheets.{Rest, readRest, whole, readSheet}
 use Rattle.sheets.specs.Nodes.{tailsOf, distinct, nodeCount}
 use Rattle.sheets.specs.Bytes.{recordOf, ruleBody, rulesBytes}
 use Rattle.sheets.specs.Answers.{answer, checked}
-use Rattle.sheets.specs.Earlier.{endingIn, tailsIn, ending-in, tails-in}
+use Rattle.sheets.specs.Earlier.{endingIn, tailsIn, tails-in}
 use Rattle.sheets.specs.LookBack.{shared, shared-at-most}
 use Rattle.sheets.specs.Finished.{finished, after-group, after-rule, one-more}
 use Rattle.sheets.specs.Lists.{empty}
-use Rattle.sheets.specs.ByteLaws.{long, fitting, length-body, length-after}
 use Rattle.sheets.specs.RecordLaws.{GroupHere, RuleHere, EndHere}
-use Rattle.sheets.specs.RuleLaws.{sound, length-ending, length-replacement, group-length}
+use Rattle.sheets.specs.RuleLaws.{sound, length-ending}
 use Rattle.sheets.specs.SheetLaws.{fault-step, group-step, rule-step, end-step, enough}
 use Rattle.sheets.specs.ReadRecords.{rule-record}
+use Rattle.sheets.specs.PlaceLaws.{group-size, rule-size, ending-read, beyond, left}
 use Rattle.sheets.specs.WriteBack.{WrittenAs, not-read, is-read, rest-written}
 use Rattle.sheets.specs.declared.Checked.the-variants.{Accepted, Refused}
 
@@ -79,48 +78,6 @@ module _ {sheet : List ℕ} {at groups rules nodes first count : ℕ} (state : S
       ∙ (ap (finished nodes (state .earlier)) (end-step (length rest) groups rules at rest (here .whole) (here .is-end) (here .last))
       ∙ ap Accepted (omega arith)))
 
-  -- the place after a record
-  beyond : (next : ℕ) → next ≡ at + (4 + bodyLength rest) → after rest ≡ drop next sheet
-  unfolding after
-  beyond next is = drop-drop (4 + bodyLength rest) at sheet ∙ ap (λ (k : ℕ). drop k sheet) (sym is)
-
-  -- what is left after a record, as it is read
-  left : (more groups′ rules′ next : ℕ) → next ≡ at + (4 + bodyLength rest) → length rest ≤ more
-      → readRest more groups′ rules′ (at + (4 + bodyLength rest)) (after rest)
-      ≡ readRest (length (drop next sheet)) groups′ rules′ next (drop next sheet)
-  left more groups′ rules′ next is long-enough =
-      let short = length-after rest in
-      enough more (length (after rest)) groups′ rules′ (at + (4 + bodyLength rest)) (after rest) (omega arith) (omega arith)
-      ∙ rw (beyond next is, is) refl
-
-  pub group-size : {number : ℕ} → GroupHere rest number → bodyLength rest ≡ 2
-  group-size here = sym (length-body rest (here .whole)) ∙ group-length (body rest) (here .sound)
-
-  pub rule-size : {s1 s2 : ℕ} → RuleHere rest s1 s2 → bodyLength rest ≡ 4 + (s1 + s2)
-  rule-size here =
-      let is = sound (body rest) (here .sound) in
-      let a = length-body rest (here .whole) in
-      let b = length-ending (body rest) is in
-      let c = length-replacement (body rest) in
-      let d = here .ending-is in
-      let e = here .replacement-is in
-      let f = is .within in
-      omega arith
-
-  -- a record stands within the sheet
-  inside : cut rest ≡ false → at + (4 + bodyLength rest) ≤ length sheet
-  inside whole-record =
-      let a = long rest whole-record in
-      let b = fitting rest whole-record in
-      let c = length-drop at sheet in
-      omega arith
-
-  pub group-inside : {number : ℕ} → GroupHere rest number → at + 6 ≤ length sheet
-  group-inside here = omega (arith, inside (here .whole), group-size here)
-
-  pub rule-inside : {s1 s2 : ℕ} → RuleHere rest s1 s2 → at + (8 + s1 + s2) ≤ length sheet
-  rule-inside here = omega (arith, inside (here .whole), rule-size here)
-
   pub ending-short : {s1 s2 : ℕ} → RuleHere rest s1 s2 → s1 ≤ 12
   ending-short here =
       let is = sound (body rest) (here .sound) in
@@ -142,7 +99,7 @@ module _ {sheet : List ℕ} {at groups rules nodes first count : ℕ} (state : S
             (group-step (length rest) groups rules at rest (here .whole) (here .is-group) (here .sound) placed)
             ∙ (after-group nodes (state .earlier) (gate (body rest))
             (readRest (length rest) (suc groups) rules (at + (4 + bodyLength rest)) (after rest))
-            ∙ (ap (finished (nodes + 1) []) (left (length rest) (suc groups) rules (at + 6) (omega arith) (omega arith))
+            ∙ (ap (finished (nodes + 1) []) (left sheet at (suc groups) rules (at + 6) (omega arith))
             ∙ rw (add-one groups) refl)));
       }
 
@@ -154,14 +111,11 @@ module _ {sheet : List ℕ} {at groups rules nodes first count : ℕ} (state : S
     bytes-here : rest ≡ recordOf 2 (ruleBody one) ++ after rest
     bytes-here = rule-record rest (here .whole) (here .is-rule) (here .sound)
 
-    ending-here : endingIn rest ≡ one .ending
-    ending-here = ap endingIn bytes-here ∙ ending-in one (after rest)
-
     tails-here : tailsIn count (drop first sheet) ≡ tailsOf (state .earlier)
     tails-here = rw (state .counted, state .stand) (tails-in (state .earlier) rest)
 
     pub shared-here : shared (endingIn rest) (tailsIn count (drop first sheet)) ≡ shared (one .ending) (tailsOf (state .earlier))
-    shared-here = rw (ending-here, tails-here)
+    shared-here = rw (ending-read here, tails-here)
 
     pub shared-short : (longest : ℕ) → longest ≡ shared (endingIn rest) (tailsIn count (drop first sheet)) → longest ≤ s1
     unfolding rule
@@ -193,7 +147,7 @@ module _ {sheet : List ℕ} {at groups rules nodes first count : ℕ} (state : S
           stand =
               state .stand
               ∙ (ap (λ (l : List ℕ). rulesBytes (state .earlier) ++ l)
-              (bytes-here ∙ ap (λ (l : List ℕ). recordOf 2 (ruleBody one) ++ l) (beyond next next-is))
+              (bytes-here ∙ ap (λ (l : List ℕ). recordOf 2 (ruleBody one) ++ l) (beyond sheet at next next-is))
               ∙ one-more (state .earlier) one (drop next sheet));
           decides =
               one-record
@@ -201,6 +155,6 @@ module _ {sheet : List ℕ} {at groups rules nodes first count : ℕ} (state : S
               (rule-step (length rest) groups rules at rest (here .whole) (here .is-rule) (here .sound) placed)
               ∙ (after-rule nodes (state .earlier) one found
               ∙ (ap (λ (n : ℕ). finished (nodes + n) earlier found) (new-nodes longest longest-is)
-              ∙ (ap (finished (nodes + (s1 - longest)) earlier) (left (length rest) groups (suc rules) next next-is (omega arith))
+              ∙ (ap (finished (nodes + (s1 - longest)) earlier) (left sheet at groups (suc rules) next next-is)
               ∙ rw (add-one rules) refl))));
         }

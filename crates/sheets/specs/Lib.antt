@@ -14,11 +14,13 @@ pub mod SheetLaws
 pub mod ReadRecords
 pub mod ReadBack
 pub mod WriteBack
+pub mod MemberLaws
 pub mod LookBack
 pub mod NodeLaws
 pub mod SharedTails
 pub mod Earlier
 pub mod Finished
+pub mod PlaceLaws
 pub mod CheckLaws
 pub mod Correspondence
 pub mod Outcomes

@@ -1,7 +1,7 @@
 -- How long the longest tail is that two endings share, found from the last letter inward. Assumes nothing.
 use Prim.Native.Nat.{ℕ, zero, suc, _+_, _-_, _≤_, _<_}
 use mathlib.Core.Path.{_≡_, refl, sym, ap, _∙_}
-use mathlib.Core.Bool.{Bool, true, false, false≢true}
+use mathlib.Core.Bool.{Bool, true, false, false≢true, or-true}
 use mathlib.Core.List.{List, [], _∷_}
 use native.Mathlib.Omega.{arith}
 use lib.Dec.{leb}
@@ -10,14 +10,15 @@ use lib.ListN.{length, getD, drop, length-drop}
 use lib.Seq.{getD-drop}
 use Rattle.paper.specs.Groups.{same}
 use Rattle.sheets.specs.Nodes.{tails, member}
-use Rattle.sheets.specs.LookBack.{shared, shared-at-most, same-equal, same-self, or-true}
+use Rattle.sheets.specs.LookBack.{shared, shared-at-most}
+use Rattle.paper.specs.GroupsLaws.{same-equal, same-itself}
 
 -- what stands from a place on is one of the tails
 tail-member : (f : List ℕ) (j x : ℕ) (t : List ℕ) → drop j f ≡ x ∷ t → member (x ∷ t) (tails f) ≡ true
 unfolding member tails
 tail-member [] zero x t is = let no-letter = ap length is in absurd (omega arith)
 tail-member [] (suc j) x t is = let no-letter = ap length is in absurd (omega arith)
-tail-member (y ∷ f) zero x t is = rw is (simp (same-self (x ∷ t)))
+tail-member (y ∷ f) zero x t is = rw is (simp (same-itself (x ∷ t)))
 tail-member (y ∷ f) (suc j) x t is = rw (tail-member f j x t is) (or-true (same (x ∷ t) (y ∷ f)))
 
 -- and each tail is what stands from some place on

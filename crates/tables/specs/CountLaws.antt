@@ -1,7 +1,7 @@
 -- The table has four numbers for each node that the node count counts. Assumes nothing.
 use Prim.Native.Nat.{ℕ, suc, _+_, _*_, _≤_}
-use mathlib.Core.Path.{_≡_, refl, sym, ap, _∙_}
-use mathlib.Core.Bool.{true, false, cond, _||_, or-false, or-assoc, or-comm, or-true}
+use mathlib.Core.Path.{_≡_, refl, ap, _∙_}
+use mathlib.Core.Bool.{true, false, cond, or-false, or-comm, or-true}
 use mathlib.Core.List.{List, [], _∷_, _++_, map, append-assoc}
 use native.Mathlib.Nat.{le-refl}
 use native.Mathlib.Omega.{arith}
@@ -12,10 +12,10 @@ use Rattle.sheets.specs.Nodes.{tails, member, distinct, nodeCount}
 use Rattle.tables.specs.Layout.{Node, node, present, roots, ends, way, added, grown, nodesOf, tableOf}
 use Rattle.paper.specs.TestLaws.{by-test}
 use Rattle.paper.specs.GroupsLaws.{same-equal}
-use Rattle.tables.specs.TailLaws.{member-append}
+use Rattle.sheets.specs.MemberLaws.{member-append, Alike, swapped, distinct-alike}
 use Rattle.tables.specs.GrownLaws.{present-added, present-grown, present-way}
 use Rattle.tables.specs.SheetLaws.{ways-group}
-use Rattle.tables.specs.DistinctLaws.{distinct-cong, ascending, ascendingOf, distinct-rules}
+use Rattle.tables.specs.DistinctLaws.{ascending, ascendingOf, distinct-rules}
 use Rattle.tables.specs.ChainLaws.{rows-length}
 use Rattle.tables.specs.TranslationFaithful.{roots-no-tail}
 
@@ -47,14 +47,8 @@ way-agrees group ending nodes seen agree letter parent =
     (or-comm (member (letter ∷ parent) seen) (member (letter ∷ parent) (tails ending)))
 
 -- one more tail is seen, wherever it stands
-seen-behind : (one : List ℕ) (left right : List (List ℕ)) (tail : List ℕ)
-    → member tail ((left ++ one ∷ []) ++ right) ≡ (same tail one || member tail (left ++ right))
-unfolding member
-seen-behind one [] right tail = refl
-seen-behind one (first ∷ left) right tail =
-    rw (seen-behind one left right tail)
-    (sym (or-assoc (same tail first) (same tail one) (member tail (left ++ right)))
-    ∙ rw (or-comm (same tail first) (same tail one)) (or-assoc (same tail one) (same tail first) (member tail (left ++ right))))
+seen-behind : (one : List ℕ) (left right : List (List ℕ)) → Alike ((left ++ one ∷ []) ++ right) (one ∷ left ++ right)
+seen-behind one left right = rw (append-assoc left (one ∷ []) right) (swapped one left right)
 
 pub added-last : (nodes new : List Node) (one : Node)
     → added nodes (new ++ one ∷ []) ≡ cond (present one (added nodes new)) (added nodes new) (added nodes new ++ one ∷ [])
@@ -68,12 +62,12 @@ last-length : (whole : List ℕ) (last : Node) (nodes : List Node) (left seen mo
 unfolding distinct member
 last-length whole last nodes left seen more =
     by-test (member whole (left ++ seen))
-    (λ p. rw p (ap (λ (n : ℕ). length nodes + n) (distinct-cong ((left ++ whole ∷ []) ++ seen) (left ++ seen) (known p) more)))
+    (λ p. rw p (ap (λ (n : ℕ). length nodes + n) (distinct-alike ((left ++ whole ∷ []) ++ seen) (left ++ seen) (known p) more)))
     (λ p.
-    let counted = distinct-cong ((left ++ whole ∷ []) ++ seen) (whole ∷ left ++ seen) (seen-behind whole left seen) more in
+    let counted = distinct-alike ((left ++ whole ∷ []) ++ seen) (whole ∷ left ++ seen) (seen-behind whole left seen) more in
     rw p (omega (arith, length-append nodes (last ∷ []))))
   where
-    known : member whole (left ++ seen) ≡ true → (tail : List ℕ) → member tail ((left ++ whole ∷ []) ++ seen) ≡ member tail (left ++ seen)
+    known : member whole (left ++ seen) ≡ true → Alike ((left ++ whole ∷ []) ++ seen) (left ++ seen)
     known p tail =
         seen-behind whole left seen tail
         ∙ by-test (same tail whole) (λ q. rw (same-equal tail whole q, p, or-true)) (λ q. rw q)

@@ -1,31 +1,14 @@
 -- How many of a list of tails are distinct does not depend on their order. Assumes nothing.
 use Prim.Native.Nat.{ℕ}
-use mathlib.Core.Path.{_≡_, refl, sym, ap, _∙_}
-use mathlib.Core.Bool.{Bool, _||_, or-assoc, or-comm, or-true}
+use mathlib.Core.Path.{_≡_, refl, ap, _∙_}
+use mathlib.Core.Bool.{or-true}
 use mathlib.Core.List.{List, [], _∷_, _++_, append-assoc}
 use Rattle.paper.specs.Groups.{Rule, same}
 use Rattle.sheets.specs.Nodes.{tails, tailsOf, member, distinct}
+use Rattle.sheets.specs.MemberLaws.{swapped, distinct-alike}
 use Rattle.tables.specs.TestLaws.{same-sym}
 use Rattle.paper.specs.TestLaws.{by-test}
 use Rattle.paper.specs.GroupsLaws.{same-equal}
-
--- only what is seen counts, not how often or where
-pub distinct-cong : (seen known : List (List ℕ)) → ((tail : List ℕ) → member tail seen ≡ member tail known)
-    → (list : List (List ℕ)) → distinct seen list ≡ distinct known list
-unfolding distinct member
-distinct-cong seen known e [] = refl
-distinct-cong seen known e (one ∷ more) =
-    rw (
-      e one,
-      distinct-cong seen known e more,
-      distinct-cong (one ∷ seen) (one ∷ known) (λ tail. ap (λ (b : Bool). same tail one || b) (e tail)) more,
-    )
-
-either : (seen : List (List ℕ)) (one two tail : List ℕ) → member tail (two ∷ one ∷ seen) ≡ member tail (one ∷ two ∷ seen)
-unfolding member
-either seen one two tail =
-    sym (or-assoc (same tail two) (same tail one) (member tail seen))
-    ∙ rw (or-comm (same tail two) (same tail one)) (or-assoc (same tail one) (same tail two) (member tail seen))
 
 pub distinct-swap : (seen : List (List ℕ)) (one two : List ℕ) (list : List (List ℕ))
     → distinct seen (one ∷ two ∷ list) ≡ distinct seen (two ∷ one ∷ list)
@@ -36,7 +19,7 @@ distinct-swap seen one two list =
     (λ p. by-test (member two seen) (λ q. rw (p, q, or-true))
     (λ q. rw (p, q, same-sym two one) (by-test (same one two)
     (λ r. rw (r, same-equal one two r))
-    (λ r. rw (r, distinct-cong (two ∷ one ∷ seen) (one ∷ two ∷ seen) (either seen one two) list)))))
+    (λ r. rw (r, distinct-alike (two ∷ one ∷ seen) (one ∷ two ∷ seen) (swapped one (two ∷ []) seen) list)))))
 
 pub distinct-move : (seen before : List (List ℕ)) (one : List ℕ) (after : List (List ℕ))
     → distinct seen (before ++ one ∷ after) ≡ distinct seen (one ∷ before ++ after)

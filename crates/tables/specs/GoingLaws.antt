@@ -12,11 +12,12 @@ use Rattle.sheets.specs.Sheets.{accepted, readSheet}
 use Rattle.sheets.specs.Nodes.{nodeCount}
 use Rattle.sheets.specs.NodeLaws.{at-most-1552}
 use Rattle.sheets.specs.WriteBack.{write-back}
-use Rattle.sheets.specs.RecordLaws.{GroupHere, RuleHere, EndHere}
+use Rattle.sheets.specs.Answers.{recordIn}
+use Rattle.sheets.specs.declared.records.Record.the-variants.{End as EndRecord}
 use Rattle.tables.specs.Layout.{Node, node, ends, tableOf}
 use Rattle.tables.specs.Laying.{laying, enter, note}
 use Rattle.tables.specs.Answers.{groupsOf}
-use Rattle.tables.specs.SheetPlaces.{Holding, holding-start, GroupNext, RuleNext, group-next, rule-next, end-next}
+use Rattle.tables.specs.SheetPlaces.{Holding, holding-start, GroupNext, RuleNext, end-next}
 use Rattle.tables.specs.TranslationSteps.{Midway, midway-start, midway-end, next-rule}
 
 abbrev pub Accepted : List ℕ → Type 0
@@ -42,38 +43,25 @@ counting-start sheet is =
       total = zero-add (length (groupsOf sheet));
     }
 
-module _ (sheet : List ℕ) (at count : ℕ) (state : Counting sheet at count) where
-  abbrev group-found : (number : ℕ) → GroupHere (drop at sheet) number → GroupNext sheet at count (state .rules) (state .list) (state .more)
-  group-found = group-next sheet at count (state .rules) (state .list) (state .more) (state .holds)
+module _ {sheet : List ℕ} {at count : ℕ} (state : Counting sheet at count) where
+  pub counting-group : {number : ℕ} → GroupNext (state .holds) number → Counting sheet (at + 6) (count + 1)
+  counting-group found =
+      let shorter = ap length (found .group-first) in
+      record {
+        rules = state .rules;
+        list = found .rules-then;
+        more = found .groups-then;
+        holds = found .holds;
+        total = omega (arith, state .total, shorter);
+      }
 
-  abbrev rule-found : (s1 s2 : ℕ) → RuleHere (drop at sheet) s1 s2 → RuleNext sheet at count (state .rules) s1 s2 (state .list) (state .more)
-  rule-found = rule-next sheet at count (state .rules) (state .list) (state .more) (state .holds)
+  pub counting-rule : {s1 s2 : ℕ} → RuleNext (state .holds) s1 s2 → Counting sheet (at + (8 + s1 + s2)) count
+  counting-rule found =
+      record { rules = state .rules + 1; list = found .rules-then; more = state .more; holds = found .holds; total = state .total }
 
-  pub counting-group : (number : ℕ) → GroupHere (drop at sheet) number → Counting sheet (at + 6) (count + 1) × (at + 6 ≤ length sheet) × (count < 16)
-  counting-group number here =
-      let next = group-found number here in
-      let shorter = ap length (next .group-first) in (
-        record {
-          rules = state .rules;
-          list = next .rules-then;
-          more = next .groups-then;
-          holds = next .holds;
-          total =
-              omega (arith, state .total, shorter);
-        },
-        next .inside,
-        next .few,
-      )
-
-  pub counting-rule : (s1 s2 : ℕ) → RuleHere (drop at sheet) s1 s2
-      → Counting sheet (at + (8 + s1 + s2)) count × (at + (8 + s1 + s2) ≤ length sheet)
-  counting-rule s1 s2 here =
-      let next = rule-found s1 s2 here in
-      (record { rules = state .rules + 1; list = next .rules-then; more = state .more; holds = next .holds; total = state .total }, next .inside)
-
-  pub counting-end : EndHere (drop at sheet) → count ≡ length (groupsOf sheet)
+  pub counting-end : recordIn (drop at sheet) ≡ EndRecord → count ≡ length (groupsOf sheet)
   counting-end here =
-      let over = end-next sheet at count (state .rules) (state .list) (state .more) (state .holds) here in
+      let over = end-next (state .holds) here in
       let none = ap length (over .1) in
       omega (arith, state .total, none)
 
@@ -124,34 +112,28 @@ going-start sheet table count is h c zeros fits room =
       room = room;
     }
 
-module _ (sheet table : List ℕ) (at root next rules count : ℕ) (state : Going sheet table at root next rules count) where
-  pub going-group : (number : ℕ) → GroupHere (drop at sheet) number
-      → Going sheet table (at + 6) next (next + 1) rules count × (at + 6 ≤ length sheet) × (next < 16)
-  going-group number here =
-      let found = group-next sheet at next rules (state .list) (state .more) (state .holds) number here in
+module _ {sheet table : List ℕ} {at root next rules count : ℕ} (state : Going sheet table at root next rules count) where
+  pub going-group : {number : ℕ} → GroupNext (state .holds) number → Going sheet table (at + 6) next (next + 1) rules count
+  going-group found =
       let shorter = ap length (found .group-first) in
       let left =
       ends-group root next (state .list) (state .more) (found .gate-then) (found .rules-then) (found .groups-then)
-      (found .none-before) (found .group-first) in (
-        record {
-          list = found .rules-then;
-          more = found .groups-then;
-          holds = found .holds;
-          total = omega (arith, state .total, shorter);
-          root-in = omega (arith, state .total, shorter);
-          midway = subst (Midway (groupsOf sheet) table count rules) left (state .midway);
-          room = state .room;
-        },
-        found .inside,
-        found .few,
-      )
+      (found .none-before) (found .group-first) in
+      record {
+        list = found .rules-then;
+        more = found .groups-then;
+        holds = found .holds;
+        total = omega (arith, state .total, shorter);
+        root-in = omega (arith, state .total, shorter);
+        midway = subst (Midway (groupsOf sheet) table count rules) left (state .midway);
+        room = state .room;
+      }
 
-  pub going-rule : (s1 s2 : ℕ) → RuleHere (drop at sheet) s1 s2 → (table′ : List ℕ) (count′ : ℕ)
+  pub going-rule : {s1 s2 : ℕ} → RuleNext (state .holds) s1 s2 → (table′ : List ℕ) (count′ : ℕ)
       → table′ ≡ note (rules + 1) (enter (inward (take s1 (drop (at + 8) sheet))) (laying table count root)) .table
       → count′ ≡ enter (inward (take s1 (drop (at + 8) sheet))) (laying table count root) .count
       → Going sheet table′ (at + (8 + s1 + s2)) root next (rules + 1) count′
-  going-rule s1 s2 here table′ count′ t c =
-      let found = rule-next sheet at next rules (state .list) (state .more) (state .holds) s1 s2 here in
+  going-rule found table′ count′ t c =
       let left = ends-rule root next (state .list) (state .more) (found .one) (found .rules-then) (found .rule-first) in
       let midway = subst (Midway (groupsOf sheet) table count rules) left (state .midway) in
       let stepped =
@@ -168,14 +150,9 @@ module _ (sheet table : List ℕ) (at root next rules count : ℕ) (state : Goin
         room = stepped .1 ∙ state .room;
       }
 
-  pub going-inside : (s1 s2 : ℕ) → RuleHere (drop at sheet) s1 s2 → (at + (8 + s1 + s2) ≤ length sheet) × (rules < 128)
-  going-inside s1 s2 here =
-      let found = rule-next sheet at next rules (state .list) (state .more) (state .holds) s1 s2 here in
-      (found .inside, found .few)
-
-  pub going-end : EndHere (drop at sheet) → table ≡ tableOf (groupsOf sheet)
+  pub going-end : recordIn (drop at sheet) ≡ EndRecord → table ≡ tableOf (groupsOf sheet)
   going-end here =
-      let over = end-next sheet at next rules (state .list) (state .more) (state .holds) here in
+      let over = end-next (state .holds) here in
       midway-end (groupsOf sheet) table count rules (endsLeft root next (state .list) (state .more))
       (ends-over root next (state .list) (state .more) (over .0) (over .1)) (state .midway) (state .room)
 

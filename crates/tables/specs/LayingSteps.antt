@@ -1,6 +1,6 @@
 -- Laying a table out one step at a time, as a loop takes it. Assumes nothing.
 use Prim.Native.Nat.{ℕ, zero, suc, _+_, _*_, _-_, _<_, _≤_}
-use mathlib.Core.Path.{_≡_, refl, ap, _∙_}
+use mathlib.Core.Path.{_≡_, refl, ap}
 use mathlib.Core.List.{List}
 use native.Mathlib.Omega.{arith}
 use lib.ListN.{length, take, getD, set}
@@ -52,9 +52,7 @@ pub enter-turn : (ending : List ℕ) (left : ℕ) (now next : Laying) → 0 < le
     → grow (getD ending (left - 1) 0) now ≡ next → enter (inward (take left ending)) now ≡ enter (inward (take (left - 1) ending)) next
 unfolding enter
 enter-turn ending left now next more within grown =
-    let counted : left ≡ suc (left - 1) = omega arith in
-    let letters = ap (λ (n : ℕ). inward (take n ending)) counted ∙ inward-last ending (left - 1) (omega arith) in
-    rw letters (ap (enter (inward (take (left - 1) ending))) grown)
+    rw (inward-last ending left more within) (ap (enter (inward (take (left - 1) ending))) grown)
 
 pub enter-over : (ending : List ℕ) (left : ℕ) (now : Laying) → left ≤ 0 → enter (inward (take left ending)) now ≡ now
 unfolding enter inward

@@ -86,3 +86,8 @@ rows nodes rules number (one ∷ later) =
 
 unfoldable pub tableOf : List Group → List ℕ
 tableOf groups = let nodes = nodesOf groups in rows nodes (ends 0 groups) 0 nodes
+
+-- the same, to be computed: what a definition names on its `unfolding` line opens with it
+unfoldable pub computed : List Group → List ℕ
+unfolding same sameNode present roots ends way added grown nodesOf letterOf oneMore isChild isSibling numberOf rows tableOf
+computed groups = tableOf groups

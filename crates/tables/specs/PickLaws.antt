@@ -48,7 +48,4 @@ pub walked-picks : (table : List ℕ) (root number : ℕ) (word : List ℕ) (rul
     (before word (rule .ending))) found number rules)
 unfolding walked
 walked-picks table root number word rules found e =
-    rw (← e)
-    (ap (cond (eqb found 0) none)
-    (pick-first (λ rule. eqb found (held table (reached table root (rule .ending)))) (λ rule. holds (rule .condition)
-    (before word (rule .ending))) found number rules))
+    rw (← e) (ap (cond (eqb found 0) none) (pick-first _ _ found number rules))

@@ -6,13 +6,14 @@ use mathlib.Core.List.{List, [], _∷_}
 use native.Mathlib.Nat.{sub-zero, zero-sub, suc-sub-suc}
 use native.Mathlib.Omega.{arith}
 use lib.Dec.{eqb}
-use lib.ListN.{length, take, drop, length-drop}
+use lib.ListN.{length, take, drop}
 use lib.Seq.{drop-drop, drop-nil, take-nil}
 use Rattle.paper.specs.Groups.{replace, single-letter, Rule}
 use Rattle.sheets.specs.Records.{bodyLength, body, condition, actionNumber, opensNumber, endingLength, ending, replacement, rule}
-use Rattle.sheets.specs.ByteLaws.{long, fitting, length-body}
+use Rattle.sheets.specs.ByteLaws.{length-body}
 use Rattle.sheets.specs.RecordLaws.{RuleHere, rule-here, at-rule}
 use Rattle.sheets.specs.RuleLaws.{sound, length-ending, length-replacement}
+use Rattle.sheets.specs.PlaceLaws.{rule-inside}
 use Rattle.sheets.specs.Answers.{recordIn, ruleRecord}
 use Rattle.sheets.specs.declared.records.Record.the-variants.{Rule as RuleRecord}
 
@@ -72,24 +73,10 @@ module _ (sheet : List ℕ) (at c a o s1 s2 : ℕ) (e : recordIn (drop at sheet)
       let given = sym e ∙ numbers in
       let same-action : a ≡ actionNumber (body rest) = cc in
       let same-opens : o ≡ opensNumber (body rest) = cc in
-      let is = sound (body rest) (here .sound) in
       record {
         condition-is = cc;
         action-is = rw (same-action, letters-after);
         opens-is = rw same-opens;
         ending-long = sym (here .ending-is);
-        inside = omega (
-          arith,
-          long rest (here .whole),
-          fitting rest
-              (here .whole),
-          length-drop at sheet,
-          length-body rest (here .whole),
-          length-ending
-              (body rest) is,
-          length-replacement (body rest),
-          here .ending-is,
-          here .replacement-is,
-          is .within,
-        );
+        inside = omega (arith, rule-inside sheet at here);
       }

@@ -1,5 +1,5 @@
 -- What the run of a table answers, case by case. Assumes nothing.
-use Prim.Native.Nat.{ℕ, _*_, _<_}
+use Prim.Native.Nat.{ℕ, _*_, _<_, _≤_}
 use mathlib.Core.Path.{_≡_, refl, sym, ap, _∙_}
 use mathlib.Core.Bool.{Bool, true, false}
 use mathlib.Core.List.{List, _++_}
@@ -64,9 +64,9 @@ module _ (sheet own table word : List ℕ) where
       omega (arith, small-table sheet (is .0), is .1)
 
   module _ (nodes : ℕ) (e : Nodes nodes ≡ translation sheet own .answer) where
-    pub run-accepted : Accepted sheet × (nodes ≡ nodeCount (groupsOf sheet))
+    pub run-accepted : Accepted sheet × (nodes ≡ nodeCount (groupsOf sheet)) × (4 * nodes ≤ 6208)
     unfolding translation groupsOf
-    run-accepted = let is = nodes-by (readSheet sheet) own nodes e in (is .0, is .1)
+    run-accepted = let is = nodes-by (readSheet sheet) own nodes e in (is .0, is .1, omega (arith, small-table sheet (is .0), is .1))
 
     laid : translation sheet own .table ≡ tableOf (groupsOf sheet) ++ drop (4 * nodeCount (groupsOf sheet)) own
     unfolding translation groupsOf laidOut

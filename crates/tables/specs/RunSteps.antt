@@ -9,13 +9,12 @@ use lib.ListN.{length, take, drop, getD, set, replicate, length-replicate, getD-
 use lib.Seq.{drop-cons, drop-length, paste, paste-suc, take-all}
 use borrow.Author.Tests.{eq-eqb, ne-eqb}
 use Rattle.paper.specs.Groups.{same}
-use Rattle.paper.specs.TestLaws.{by-test}
-use Rattle.paper.specs.GroupsLaws.{same-equal}
+use Rattle.paper.specs.GroupsLaws.{differ-same}
 
 -- ## Comparing numbers
 
 pub same-long : (one other : List ℕ) → (length one ≡ length other → ⊥) → same one other ≡ false
-same-long one other h = by-test (same one other) (λ p. absurd (h (ap length (same-equal one other p)))) (λ p. p)
+same-long one other h = differ-same one other (λ e. h (ap length e))
 
 module _ (one other : List ℕ) (i : ℕ) (within : i < length one) (also : i < length other) where
   pub same-next : getD one i 0 ≡ getD other i 0 → same (drop i one) (drop i other) ≡ same (drop (i + 1) one) (drop (i + 1) other)

@@ -13,7 +13,7 @@ use Rattle.sheets.specs.Nodes.{tails, tailsOf, member}
 use Rattle.tables.specs.Layout.{Node, node, sameNode, ends, numberOf}
 use Rattle.tables.specs.Faithful.{firstWith}
 use Rattle.tables.specs.TestLaws.{same-sym}
-use Rattle.tables.specs.TailLaws.{member-append}
+use Rattle.sheets.specs.MemberLaws.{member-append}
 use Rattle.tables.specs.GrownLaws.{inWays, present-way}
 
 -- Rules of another group

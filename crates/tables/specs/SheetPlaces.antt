@@ -1,47 +1,47 @@
 -- Going through an accepted sheet record by record: what the rest of it holds where a record starts. Assumes nothing.
 use Prim.Native.Nat.{ℕ, zero, suc, _+_, _≤_, _<_}
 use mathlib.Core.Path.{_≡_, refl, sym, ap, _∙_}
-use mathlib.Core.Bool.{true, false, false≢true}
+use mathlib.Core.Bool.{false, cond, false≢true}
 use mathlib.Core.List.{List, [], _∷_}
 use native.Mathlib.Numerals.{add-one}
 use native.Mathlib.Omega.{arith}
-use lib.Dec.{ltb}
+use lib.Dec.{eqb, ltb}
 use borrow.Author.Tests.{ltb-true, ltb-false}
 use lib.ListN.{length, take, drop, getD, length-drop}
 use lib.Seq.{drop-drop}
-use Rattle.paper.specs.Groups.{Rule, Gate, Group}
-use Rattle.sheets.specs.Records.{bodyLength, body, after, gate, rule, ending, cut, faultyAlone, faulty}
+use Rattle.paper.specs.Groups.{Rule, Gate, always, if-opened, Group}
+use Rattle.sheets.specs.Records.{bodyLength, body, after, gate, rule, ending, faulty}
 use Rattle.sheets.specs.Sheets.{Rest, faulty-at, holding, ruleThen, groupThen, readRest, accepted, whole, readSheet}
-use Rattle.sheets.specs.ByteLaws.{long, fitting, length-body, length-after}
-use Rattle.sheets.specs.RecordLaws.{GroupHere, RuleHere, EndHere}
-use Rattle.sheets.specs.RuleLaws.{sound, group-length, length-ending, length-replacement}
+use Rattle.sheets.specs.Lists.{empty}
+use Rattle.sheets.specs.RecordLaws.{RuleHere, group-here, rule-here, end-here, fault-here}
+use Rattle.sheets.specs.Answers.{recordIn}
+use Rattle.sheets.specs.declared.records.Record.the-variants.{Group as GroupRecord, Rule as RuleRecord, End as EndRecord, Faulty as FaultyRecord}
+use Rattle.sheets.specs.RuleLaws.{sound}
 use Rattle.sheets.specs.SheetLaws.{fault-alone, group-fault, rule-fault, fault-step, group-step, rule-step, end-step, enough, faulty-empty}
-use Rattle.sheets.specs.Earlier.{endingIn, ending-in}
-use Rattle.sheets.specs.ReadRecords.{rule-record, few-groups, few-rules}
+use Rattle.sheets.specs.Earlier.{endingIn}
+use Rattle.sheets.specs.ReadRecords.{few-groups, few-rules}
+use Rattle.sheets.specs.PlaceLaws.{group-size, rule-size, ending-read, group-inside, rule-inside, left}
 use Rattle.sheets.specs.WriteBack.{WrittenAs, not-read, is-read, rest-written}
 use Rattle.paper.specs.TestLaws.{by-test}
 
 -- the rest of the sheet from a place on, after so many groups and rules, holds rules up to the next group, and groups
-abbrev pub Holding : List ℕ → ℕ → ℕ → ℕ → List Rule → List Group → Type 0
-Holding sheet at groups rules list more = readRest (length (drop at sheet)) groups rules at (drop at sheet) ≡ holding list more
+pub record Holding (sheet : List ℕ) (at groups rules : ℕ) (list : List Rule) (more : List Group) : Type 0 where
+  pub rest-is : readRest (length (drop at sheet)) groups rules at (drop at sheet) ≡ holding list more
 
 -- ## The start
-
-no-rules : (list : List Rule) → length list ≡ 0 → list ≡ []
-no-rules [] none = refl
-no-rules (one ∷ list) none = absurd (omega arith)
 
 from-start : {found : Rest} (sheet : List ℕ) (groups : List Group) → WrittenAs 0 0 sheet found
     → whole found ≡ accepted groups → found ≡ holding [] groups
 from-start sheet groups (not-read place) e = let z : _≡_ {A = ℕ} 0 1 = cc in absurd (omega arith)
 from-start sheet groups (is-read list found w) e =
-    let none = no-rules list (w .no-rule-first refl) in
+    let none = empty list (w .no-rule-first refl) in
     let same-groups : found ≡ groups = cc in
     rw (none, same-groups)
 
 pub holding-start : (sheet : List ℕ) (groups : List Group) → readSheet sheet ≡ accepted groups → Holding sheet 0 0 0 [] groups
 unfolding readSheet
-holding-start sheet groups e = from-start sheet groups (rest-written (length sheet) 0 0 0 sheet (omega arith) (omega arith)) e
+holding-start sheet groups e =
+    record { rest-is = from-start sheet groups (rest-written (length sheet) 0 0 0 sheet (omega arith) (omega arith)) e }
 
 -- ## What stands before the rest
 
@@ -72,18 +72,22 @@ after-rule one (holding rules groups) list more e =
 
 -- ## One record
 
-pub record GroupNext (sheet : List ℕ) (at groups rules : ℕ) (list : List Rule) (more : List Group) : Type 0 where
+-- a group stands here, whose record has this number for its gate
+pub record GroupNext {sheet : List ℕ} {at groups rules : ℕ} {list : List Rule} {more : List Group}
+    (here : Holding sheet at groups rules list more) (number : ℕ) : Type 0 where
   pub rules-then : List Rule
   pub groups-then : List Group
   pub gate-then : Gate
-  pub gate-is : gate-then ≡ gate (body (drop at sheet))
+  pub gate-is : gate-then ≡ cond (eqb number 0) always if-opened
   pub holds : Holding sheet (at + 6) (groups + 1) rules rules-then groups-then
   pub none-before : list ≡ []
   pub group-first : more ≡ record { gate = gate-then; rules = rules-then } ∷ groups-then
   pub inside : at + 6 ≤ length sheet
   pub few : groups < 16
 
-pub record RuleNext (sheet : List ℕ) (at groups rules s1 s2 : ℕ) (list : List Rule) (more : List Group) : Type 0 where
+-- a rule stands here, whose ending and replacement have so many letters
+pub record RuleNext {sheet : List ℕ} {at groups rules : ℕ} {list : List Rule} {more : List Group}
+    (here : Holding sheet at groups rules list more) (s1 s2 : ℕ) : Type 0 where
   pub one : Rule
   pub rules-then : List Rule
   pub is-here : one ≡ rule (body (drop at sheet))
@@ -98,18 +102,18 @@ take-own zero list = refl
 take-own (suc k) [] = refl
 take-own (suc k) (x ∷ list) = ap (λ (rest : List ℕ). x ∷ rest) (take-own k list)
 
-module _ (sheet : List ℕ) (at groups rules : ℕ) (list : List Rule) (more : List Group) (holds : Holding sheet at groups rules list more) where
+module _ {sheet : List ℕ} {at groups rules : ℕ} {list : List Rule} {more : List Group} (here : Holding sheet at groups rules list more) where
   abbrev rest : List ℕ
   rest = drop at sheet
 
   one-record : readRest (suc (length rest)) groups rules at rest ≡ holding list more
-  one-record = enough (suc (length rest)) (length rest) groups rules at rest (omega arith) (omega arith) ∙ holds
+  one-record = enough (suc (length rest)) (length rest) groups rules at rest (omega arith) (omega arith) ∙ here .rest-is
 
-  pub never-faulty : faulty groups rules rest ≡ false
+  never-faulty : faulty groups rules rest ≡ false
   never-faulty =
       by-test (faulty groups rules rest)
       (λ p.
-      let here = sym (fault-step (length rest) groups rules at rest p) ∙ one-record in
+      let refused = sym (fault-step (length rest) groups rules at rest p) ∙ one-record in
       let z : _≡_ {A = ℕ} 0 1 = cc in
       absurd (omega arith))
       (λ p. p)
@@ -122,86 +126,61 @@ module _ (sheet : List ℕ) (at groups rules : ℕ) (list : List Rule) (more : L
       let empty : length rest ≤ 0 = omega (arith, length-drop at sheet) in
       absurd (false≢true (sym never-faulty ∙ faulty-empty groups rules rest empty)))
 
-  pub never-alone : faultyAlone rest ≡ true → ⊥
-  never-alone e = false≢true (sym never-faulty ∙ fault-alone groups rules rest e)
+  pub never-alone : recordIn rest ≡ FaultyRecord → ⊥
+  never-alone e = false≢true (sym never-faulty ∙ fault-alone groups rules rest (fault-here rest e))
 
-  -- what is left after a record, as it is read
-  left : (groups′ rules′ next : ℕ) → next ≡ at + (4 + bodyLength rest)
-      → readRest (length rest) groups′ rules′ (at + (4 + bodyLength rest)) (after rest)
-      ≡ readRest (length (drop next sheet)) groups′ rules′ next (drop next sheet)
-  unfolding after
-  left groups′ rules′ next is =
-      let beyond : after rest ≡ drop next sheet = drop-drop (4 + bodyLength rest) at sheet ∙ ap (λ (k : ℕ). drop k sheet) (sym is) in
-      enough (length rest) (length (after rest)) groups′ rules′ (at + (4 + bodyLength rest)) (after rest) (omega
-      (arith, length-after rest)) (omega arith)
-      ∙ rw (beyond, is)
-
-  within : cut rest ≡ false → at + (4 + bodyLength rest) ≤ length sheet
-  within whole-record = omega (arith, long rest whole-record, fitting rest whole-record, length-drop at sheet)
-
-  pub group-next : (number : ℕ) → GroupHere rest number → GroupNext sheet at groups rules list more
-  group-next number here =
-      let placed = sym (group-fault groups rules rest (here .whole) (here .is-group) (here .sound)) ∙ never-faulty in
-      let stepped = sym (group-step (length rest) groups rules at rest (here .whole) (here .is-group) (here .sound) placed) ∙ one-record in
+  pub group-next : {number : ℕ} → recordIn rest ≡ GroupRecord number → GroupNext here number
+  unfolding gate
+  group-next {number} e =
+      let is = group-here rest number e in
+      let placed = sym (group-fault groups rules rest (is .whole) (is .is-group) (is .sound)) ∙ never-faulty in
+      let stepped = sym (group-step (length rest) groups rules at rest (is .whole) (is .is-group) (is .sound) placed) ∙ one-record in
       let found = after-group (gate (body rest)) (readRest (length rest) (suc groups) rules (at + (4 + bodyLength rest))
       (after rest)) list more stepped in
-      let size : bodyLength rest ≡ 2 = sym (length-body rest (here .whole)) ∙ group-length (body rest) (here .sound) in
+      let size = group-size is in
       let next : at + 6 ≡ at + (4 + bodyLength rest) = omega arith in
       record {
         rules-then = found .rules-then;
         groups-then = found .groups-then;
         gate-then = gate (body rest);
-        gate-is = refl;
-        holds = rw (add-one groups) (sym (left (suc groups) rules (at + 6) next) ∙ found .rest-then);
+        gate-is = rw (is .gate-is);
+        holds = record { rest-is = rw (add-one groups) (sym (left sheet at (suc groups) rules (at + 6) next) ∙ found .rest-then) };
         none-before = found .none-before;
         group-first = found .group-first;
-        inside = omega (arith, within (here .whole));
+        inside = group-inside sheet at is;
         few = few-groups groups (body rest) placed;
       }
 
-  rule-size : (s1 s2 : ℕ) → RuleHere rest s1 s2 → bodyLength rest ≡ 4 + (s1 + s2)
-  rule-size s1 s2 here =
-      let is = sound (body rest) (here .sound) in
-      omega (
-        arith,
-        length-body rest (here .whole),
-        length-ending (body rest) is,
-        length-replacement
-            (body rest),
-        here .ending-is,
-        here .replacement-is,
-        is .within,
-      )
-
-  ending-slice : (s1 s2 : ℕ) → RuleHere rest s1 s2 → take s1 (drop (at + 8) sheet) ≡ rule (body rest) .ending
+  ending-slice : {s1 s2 : ℕ} → RuleHere rest s1 s2 → take s1 (drop (at + 8) sheet) ≡ rule (body rest) .ending
   unfolding endingIn rule
-  ending-slice s1 s2 here =
-      let bytes = rule-record rest (here .whole) (here .is-rule) (here .sound) in
-      let read : endingIn rest ≡ rule (body rest) .ending = ap endingIn bytes ∙ ending-in (rule (body rest)) (after rest) in
-      let long-as : s1 ≡ length (take (getD rest 7 0) (drop 8 rest)) = here .ending-is ∙ ap length (sym read) in
+  ending-slice {s1} found =
+      let read = ending-read found in
+      let long-as : s1 ≡ length (take (getD rest 7 0) (drop 8 rest)) = found .ending-is ∙ ap length (sym read) in
       let moved : drop 8 rest ≡ drop (at + 8) sheet = drop-drop 8 at sheet in
       rw (long-as, ← moved) (take-own (getD rest 7 0) (drop 8 rest) ∙ read)
 
-  pub rule-next : (s1 s2 : ℕ) → RuleHere rest s1 s2 → RuleNext sheet at groups rules s1 s2 list more
-  rule-next s1 s2 here =
-      let placed = sym (rule-fault groups rules rest (here .whole) (here .is-rule) (here .sound)) ∙ never-faulty in
-      let stepped = sym (rule-step (length rest) groups rules at rest (here .whole) (here .is-rule) (here .sound) placed) ∙ one-record in
+  pub rule-next : {c a o s1 s2 : ℕ} → recordIn rest ≡ RuleRecord c a o s1 s2 → RuleNext here s1 s2
+  rule-next {c} {a} {o} {s1} {s2} e =
+      let is = rule-here rest c a o s1 s2 e in
+      let placed = sym (rule-fault groups rules rest (is .whole) (is .is-rule) (is .sound)) ∙ never-faulty in
+      let stepped = sym (rule-step (length rest) groups rules at rest (is .whole) (is .is-rule) (is .sound) placed) ∙ one-record in
       let found = after-rule (rule (body rest)) (readRest (length rest) groups (suc rules) (at + (4 + bodyLength rest))
       (after rest)) list more stepped in
-      let size = rule-size s1 s2 here in
+      let size = rule-size is in
       let next : at + (8 + s1 + s2) ≡ at + (4 + bodyLength rest) = omega arith in
       record {
         one = rule (body rest);
         rules-then = found .rules-then;
         is-here = refl;
-        holds = rw (add-one rules) (sym (left groups (suc rules) (at + (8 + s1 + s2)) next) ∙ found .rest-then);
+        holds = record { rest-is = rw (add-one rules) (sym (left sheet at groups (suc rules) (at + (8 + s1 + s2)) next) ∙ found .rest-then) };
         rule-first = found .rule-first;
-        inside = omega (arith, within (here .whole));
+        inside = rule-inside sheet at is;
         few = few-rules groups rules placed;
-        ending-here = ending-slice s1 s2 here;
+        ending-here = ending-slice is;
       }
 
-  pub end-next : EndHere rest → (list ≡ []) × (more ≡ [])
-  end-next here =
-      let stepped = sym (end-step (length rest) groups rules at rest (here .whole) (here .is-end) (here .last)) ∙ one-record in
+  pub end-next : recordIn rest ≡ EndRecord → (list ≡ []) × (more ≡ [])
+  end-next e =
+      let is = end-here rest e in
+      let stepped = sym (end-step (length rest) groups rules at rest (is .whole) (is .is-end) (is .last)) ∙ one-record in
       (cc, cc)

@@ -14,12 +14,22 @@ use Rattle.paper.specs.Groups.{replace, single-letter, Rule, Result, before, ac
 use Rattle.tables.specs.Walk.{deepest, walked, walkGroup}
 use Rattle.tables.specs.PickLaws.{walked-picks}
 use Rattle.tables.specs.RulePlaces.{RuleFacts}
-use Rattle.tables.specs.TryLaws.{picked}
+use Rattle.tables.specs.TryLaws.{picked, Some}
 
 -- what a step leaves: whether the group's result fits the place, and if so the letters that stand first in it
 pub record Stepped (result : Result) (place : ℕ) (after : List ℕ) (size : ℕ) (opened fits : Bool) : Type 0 where
   pub fits-is : fits ≡ leb (length (result .word)) place
   pub letters : fits ≡ true → (take size after ≡ result .word) × (size ≤ place) × (opened ≡ result .opened)
+
+-- what a rule leaves that was obeyed, whose record in the sheet has these numbers: less by one letter, more by its letters, or a
+-- result that does not fit the place
+pub record Obeyed (result : Result) (sheet place : List ℕ) (size at a o s1 s2 : ℕ) : Type 0 where
+  pub inside : at + 8 + s1 + s2 ≤ length sheet
+  pub single : (a ≡ 0 → ⊥) → Stepped result (length place) place (size - s1 - 1) (eqb o 1) true
+  pub replaced : (after : List ℕ) → a ≡ 0 → s2 ≤ length place - (size - s1)
+      → after ≡ paste place (size - s1) (take s2 (drop (at + 8 + s1) sheet)) s2
+      → Stepped result (length place) after (size - s1 + s2) (eqb o 1) true
+  pub outgrown : (opened : Bool) → a ≡ 0 → length place - (size - s1) < s2 → Stepped result (length place) place size opened false
 
 module _ (table : List ℕ) (root number : ℕ) (place : List ℕ) (size : ℕ) (rules : List Rule) (found : ℕ) (within : size ≤ length place)
     (deep : found ≡ deepest table root (inward (take size place))) where
@@ -71,7 +81,7 @@ module _ (table : List ℕ) (root number : ℕ) (place : List ℕ) (size : ℕ) 
     part-long : length (take part place) ≡ part
     part-long = length-take-le part place (omega arith)
 
-    pub step-single : (a ≡ 0 → ⊥) → Stepped result (length place) place (part - 1) (eqb o 1) true
+    step-single : (a ≡ 0 → ⊥) → Stepped result (length place) place (part - 1) (eqb o 1) true
     unfolding act
     step-single e =
         let single : one .action ≡ single-letter = facts .action-is ∙ rw (ne-eqb a 0 e) in
@@ -94,7 +104,7 @@ module _ (table : List ℕ) (root number : ℕ) (place : List ℕ) (size : ℕ) 
     new-long : length (take part place ++ letters-new) ≡ part + s2
     new-long = omega (arith, length-append (take part place) letters-new, part-long, letters-long)
 
-    pub step-replace : (after : List ℕ) → a ≡ 0 → s2 ≤ length place - part → after ≡ paste place part letters-new s2
+    step-replace : (after : List ℕ) → a ≡ 0 → s2 ≤ length place - part → after ≡ paste place part letters-new s2
         → Stepped result (length place) after (part + s2) (eqb o 1) true
     step-replace after e room stored =
         let first = take-paste place part letters-new s2 (omega arith) (omega (arith, letters-long)) in
@@ -105,10 +115,17 @@ module _ (table : List ℕ) (root number : ℕ) (place : List ℕ) (size : ℕ) 
           letters = λ t. (rw stored (first ∙ rw all), omega arith, refl);
         })
 
-    pub step-outgrown : (opened : Bool) → a ≡ 0 → length place - part < s2 → Stepped result (length place) place size opened false
+    step-outgrown : (opened : Bool) → a ≡ 0 → length place - part < s2 → Stepped result (length place) place size opened false
     step-outgrown opened e room =
         rw (given, replaced e)
         (record {
           fits-is = sym (lt-leb (length (take part place ++ letters-new)) (length place) (omega (arith, new-long)));
           letters = λ t. absurd (false≢true t);
         })
+
+    all-ways : Obeyed result sheet place size at a o s1 s2
+    all-ways = record { inside = facts .inside; single = step-single; replaced = step-replace; outgrown = step-outgrown }
+
+  pub obeyed : (found ≡ 0 → ⊥) → (sheet : List ℕ) (at a o s1 s2 : ℕ) → Some sheet (picked table root found word number rules) at a o s1 s2
+      → Obeyed result sheet place size at a o s1 s2
+  obeyed deeper sheet at a o s1 s2 it = all-ways sheet at (it .condition) a o s1 s2 (it .one) (it .facts) deeper (it .is-one)

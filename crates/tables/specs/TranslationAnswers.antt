@@ -13,6 +13,7 @@ use Rattle.sheets.specs.declared.Checked.the-variants.{Accepted as Counted, Ref
 use Rattle.tables.specs.Layout.{roots, ends, grown, nodesOf, rows, tableOf}
 use Rattle.tables.specs.Answers.{laidOut, translationOf, translation, groupsIn, groupsOf}
 use Rattle.tables.specs.GoingLaws.{Accepted}
+use Rattle.tables.specs.declared.Translated.{Translated}
 use Rattle.tables.specs.declared.Translated.the-variants.{Nodes, Refused, Short}
 
 accepted-by : (found : Sheet) (nodes : ℕ) → answer found ≡ Counted nodes → (found ≡ accepted (groupsIn found)) × (nodes ≡ nodeCount (groupsIn found))
@@ -28,24 +29,13 @@ pub checked-accepted : (sheet : List ℕ) (nodes : ℕ) → checked sheet ≡ Co
 unfolding checked groupsOf
 checked-accepted sheet nodes e = accepted-by (readSheet sheet) nodes e
 
-pub translation-refused : (sheet table : List ℕ) (place : ℕ) → checked sheet ≡ Faulty place
-    → translation sheet table ≡ record { answer = Refused place; table = table }
+-- an answer, and the table's place after it, are those of the translation
+abbrev pub AnsweredAs : List ℕ → List ℕ → Translated → List ℕ → Type 0
+AnsweredAs sheet table answer after = (answer ≡ translation sheet table .answer) × (after ≡ translation sheet table .table)
+
+pub translation-refused : (sheet table : List ℕ) (place : ℕ) → checked sheet ≡ Faulty place → AnsweredAs sheet table (Refused place) table
 unfolding checked translation translationOf
-translation-refused sheet table place e = rw (refused-by (readSheet sheet) place e)
-
-module _ (sheet table : List ℕ) (nodes : ℕ) (e : checked sheet ≡ Counted nodes) where
-  pub translation-short : length table < 4 * nodes → translation sheet table ≡ record { answer = Short; table = table }
-  unfolding translation translationOf
-  translation-short h =
-      let is = checked-accepted sheet nodes e in
-      rw (is .0, ← is .1, lt-ltb (length table) (4 * nodes) h)
-
-  pub translation-done : 4 * nodes ≤ length table
-      → translation sheet table ≡ record { answer = Nodes nodes; table = tableOf (groupsOf sheet) ++ drop (4 * nodes) table }
-  unfolding translation translationOf laidOut
-  translation-done h =
-      let is = checked-accepted sheet nodes e in
-      rw (is .0, ← is .1, le-ltb (length table) (4 * nodes) h)
+translation-refused sheet table place e = rw (refused-by (readSheet sheet) place e) (refl, refl)
 
 -- a sheet of no groups has an empty table
 no-groups : (groups : List Group) → length groups ≡ 0 → (tableOf groups ≡ []) × (nodeCount groups ≡ 0)
@@ -53,9 +43,24 @@ unfolding roots ends grown nodesOf rows tableOf nodeCount
 no-groups [] none = (refl, refl)
 no-groups (group ∷ groups) none = absurd (omega arith)
 
-pub translation-empty : (sheet table : List ℕ) (nodes count : ℕ) → checked sheet ≡ Counted nodes → count ≡ length (groupsOf sheet) → count ≡ 0
-    → tableOf (groupsOf sheet) ++ drop (4 * nodes) table ≡ table
-translation-empty sheet table nodes count e c none =
-    let is = checked-accepted sheet nodes e in
-    let empty = no-groups (groupsOf sheet) (sym c ∙ none) in
-    rw (is .1, empty .0, empty .1)
+module _ (sheet table : List ℕ) (nodes : ℕ) (e : checked sheet ≡ Counted nodes) where
+  pub translation-short : length table < 4 * nodes → AnsweredAs sheet table Short table
+  unfolding translation translationOf
+  translation-short h =
+      let is = checked-accepted sheet nodes e in
+      rw (is .0, ← is .1, lt-ltb (length table) (4 * nodes) h) (refl, refl)
+
+  pub translation-done : (front : List ℕ) → 4 * nodes ≤ length table → front ≡ tableOf (groupsOf sheet)
+      → AnsweredAs sheet table (Nodes nodes) (front ++ drop (4 * nodes) table)
+  unfolding translation translationOf laidOut
+  translation-done front h laid =
+      let is = checked-accepted sheet nodes e in
+      rw (is .0, ← is .1, le-ltb (length table) (4 * nodes) h, laid) (refl, refl)
+
+  pub translation-empty : (count : ℕ) → 4 * nodes ≤ length table → count ≡ length (groupsOf sheet) → count ≡ 0
+      → AnsweredAs sheet table (Nodes nodes) table
+  translation-empty count h c none =
+      let empty = no-groups (groupsOf sheet) (sym c ∙ none) in
+      let no-nodes : nodes ≡ 0 = checked-accepted sheet nodes e .1 ∙ empty .1 in
+      let done = translation-done [] h (sym (empty .0)) in
+      (done .0, rw no-nodes at (done .1))

@@ -13,10 +13,8 @@ use Rattle.paper.specs.Conditions.{holds}
 use Rattle.paper.specs.Groups.{Rule, Group, before}
 use Rattle.sheets.specs.Records.{body, rule}
 use Rattle.sheets.specs.Sheets.{Rest, faulty-at, holding, readRest}
-use Rattle.sheets.specs.RecordLaws.{GroupHere, EndHere}
 use Rattle.sheets.specs.Answers.{recordIn}
-use Rattle.sheets.specs.RecordLaws.{rule-here}
-use Rattle.sheets.specs.declared.records.Record.the-variants.{Rule as RuleRecord}
+use Rattle.sheets.specs.declared.records.Record.the-variants.{Group as GroupRecord, Rule as RuleRecord, End as EndRecord}
 use Rattle.tables.specs.Walk.{reached, held}
 use Rattle.tables.specs.PickLaws.{pick}
 use Rattle.tables.specs.SheetPlaces.{Holding, RuleNext, group-next, rule-next, end-next}
@@ -64,25 +62,24 @@ pub record Trying (table : List ℕ) (root found : ℕ) (word sheet : List ℕ) 
 pub trying-start : (table : List ℕ) (root found : ℕ) (word sheet : List ℕ) (groups start first : ℕ) → Readable sheet start groups first
     → Trying table root found word sheet groups start first start first
 trying-start table root found word sheet groups start first is =
-    record { list = rulesOf (restAt sheet start groups first); more = groupsAfter (restAt sheet start groups first); holds-here = is; decides = refl }
+    record { list = rulesOf (restAt sheet start groups first); more = groupsAfter (restAt sheet start groups first); holds-here = record { rest-is = is }; decides = refl }
 
 picked-none : (table : List ℕ) (root found : ℕ) (word : List ℕ) (number : ℕ) (list : List Rule) → list ≡ []
     → picked table root found word number list ≡ none
 unfolding picked pick
 picked-none table root found word number list e = rw e
 
-picked-here : (table : List ℕ) (root found : ℕ) (word : List ℕ) (number : ℕ) (list : List Rule) (one : Rule) (more : List Rule) → list ≡ one ∷ more
-    → obeys table root found word number (one .condition) (one .ending) ≡ true → picked table root found word number list ≡ some one
-unfolding picked pick obeys
-picked-here table root found word number list one more e t = rw (e, t)
+module _ (table : List ℕ) (root found : ℕ) (word : List ℕ) (number : ℕ) (list : List Rule) (one : Rule) (more : List Rule) (split : list ≡ one ∷ more) where
+  picked-here : obeys table root found word number (one .condition) (one .ending) ≡ true → picked table root found word number list ≡ some one
+  unfolding picked pick obeys
+  picked-here t = rw (split, t)
 
-picked-next : (table : List ℕ) (root found : ℕ) (word : List ℕ) (number : ℕ) (list : List Rule) (one : Rule) (more : List Rule) → list ≡ one ∷ more
-    → obeys table root found word number (one .condition) (one .ending) ≡ false
-    → picked table root found word number list ≡ picked table root found word (suc number) more
-unfolding picked pick obeys
-picked-next table root found word number list one more e t = rw (e, t)
+  picked-next : obeys table root found word number (one .condition) (one .ending) ≡ false
+      → picked table root found word number list ≡ picked table root found word (suc number) more
+  unfolding picked pick obeys
+  picked-next t = rw (split, t)
 
-module _ (table : List ℕ) (root found : ℕ) (word sheet : List ℕ) (groups start first place rules : ℕ)
+module _ {table : List ℕ} {root found : ℕ} {word sheet : List ℕ} {groups start first place rules : ℕ}
     (state : Trying table root found word sheet groups start first place rules) where
   abbrev answer : Option Rule
   answer = picked table root found word (first + 1) (rulesOf (restAt sheet start groups first))
@@ -90,22 +87,18 @@ module _ (table : List ℕ) (root found : ℕ) (word sheet : List ℕ) (groups s
   none-picked : state .list ≡ [] → answer ≡ none
   none-picked e = sym (state .decides) ∙ picked-none table root found word (rules + 1) (state .list) e
 
-  pub trying-group : (number : ℕ) → GroupHere (drop place sheet) number → answer ≡ none
-  trying-group number here = none-picked (group-next sheet place groups rules (state .list) (state .more)
-      (state .holds-here) number here .none-before)
+  pub trying-group : {number : ℕ} → recordIn (drop place sheet) ≡ GroupRecord number → answer ≡ none
+  trying-group e = none-picked (group-next (state .holds-here) e .none-before)
 
-  pub trying-end : EndHere (drop place sheet) → answer ≡ none
-  trying-end here = none-picked (end-next sheet place groups rules (state .list) (state .more) (state .holds-here) here .0)
+  pub trying-end : recordIn (drop place sheet) ≡ EndRecord → answer ≡ none
+  trying-end e = none-picked (end-next (state .holds-here) e .0)
 
-  module _ (c a o s1 s2 : ℕ) (e : recordIn (drop place sheet) ≡ RuleRecord c a o s1 s2) where
-    abbrev next : RuleNext sheet place groups rules s1 s2 (state .list) (state .more)
-    next = rule-next sheet place groups rules (state .list) (state .more) (state .holds-here) s1 s2 (rule-here (drop place sheet) c a o s1 s2 e)
+  module _ {c a o s1 s2 : ℕ} (e : recordIn (drop place sheet) ≡ RuleRecord c a o s1 s2) where
+    abbrev next : RuleNext (state .holds-here) s1 s2
+    next = rule-next (state .holds-here) e
 
     abbrev facts : RuleFacts sheet place c a o s1 s2 (rule (body (drop place sheet)))
     facts = rule-facts sheet place c a o s1 s2 e
-
-    pub trying-inside : (place + (8 + s1 + s2) ≤ length sheet) × (rules < 128)
-    trying-inside = (next .inside, next .few)
 
     tested : (test : Bool) → obeys table root found word (rules + 1) c (take s1 (drop (place + 8) sheet)) ≡ test
         → obeys table root found word (rules + 1) (next .one .condition) (next .one .ending) ≡ test

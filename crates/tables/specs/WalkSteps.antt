@@ -41,9 +41,14 @@ chain-end (suc steps) table one at h = absurd (omega arith)
 
 -- The letters of a word, from the last inward
 
-pub inward-last : (word : List ℕ) (left : ℕ) → left < length word → inward (take (suc left) word) ≡ getD word left 0 ∷ inward (take left word)
+pub inward-last : (word : List ℕ) (left : ℕ) → 0 < left → left ≤ length word
+    → inward (take left word) ≡ getD word (left - 1) 0 ∷ inward (take (left - 1) word)
 unfolding inward
-inward-last word left h = rw (take-suc word left 0 h, reverse-append)
+inward-last word left more within =
+    let counted : left ≡ suc (left - 1) = omega arith in
+    let whole : take left word ≡ take (left - 1) word ++ getD word (left - 1) 0 ∷ [] = ap (λ (n : ℕ). take n word) counted
+    ∙ take-suc word (left - 1) 0 (omega arith) in
+    rw (whole, reverse-append)
 
 -- what the nodes below this one give
 unfoldable pub below : List ℕ → ℕ → List ℕ → ℕ
@@ -80,22 +85,27 @@ unfolding orFound below inward
 word-over table word at found zero h = refl
 word-over table word at found (suc left) h = absurd (omega arith)
 
--- One turn of the walk over a word, whose first `left` letters are still to come
+-- One turn of a walk over letters, of which the first `left` are still to come: it goes on with the last of these, to the
+-- child of the node at hand
+pub record Turn (table letters : List ℕ) (at left one next : ℕ) : Type 0 where
+  pub more : 0 < left
+  pub within : left ≤ length letters
+  pub last : one ≡ getD letters (left - 1) 0
+  pub stepped : next ≡ child table at one
 
-module _ (table : List ℕ) (word : List ℕ) (at found left one next : ℕ) (more : 0 < left) (within : left ≤ length word)
-    (last : one ≡ getD word (left - 1) 0) (stepped : next ≡ child table at one) where
+-- One turn over a word
+
+module _ {table word : List ℕ} {at left one next : ℕ} (turn : Turn table word at left one next) (found : ℕ) where
   one-less : inward (take left word) ≡ one ∷ inward (take (left - 1) word)
-  one-less =
-      let counted : left ≡ suc (left - 1) = omega arith in
-      ap (λ (n : ℕ). inward (take n word)) counted ∙ inward-last word (left - 1) (omega arith) ∙ rw last
+  one-less = inward-last word left (turn .more) (turn .within) ∙ rw (turn .last)
 
   pub turn-missing : next ≡ 0 → orFound table at found (inward (take left word)) ≡ found
-  turn-missing e = rw one-less (deepest-missing table at found one (inward (take (left - 1) word)) (sym stepped ∙ e))
+  turn-missing e = rw one-less (deepest-missing table at found one (inward (take (left - 1) word)) (sym (turn .stepped) ∙ e))
 
-  pub turn-on : (next ≡ 0 → ⊥) → orFound table at found (inward (take left word))
+  turn-on : (next ≡ 0 → ⊥) → orFound table at found (inward (take left word))
       ≡ orFound table next (cond (eqb (firstRule table next) 0) found (firstRule table next)) (inward (take (left - 1) word))
   turn-on e =
-      rw (one-less, stepped) (deepest-on table at found one (inward (take (left - 1) word)) (λ z. e (stepped ∙ z)))
+      rw (one-less, turn .stepped) (deepest-on table at found one (inward (take (left - 1) word)) (λ z. e (turn .stepped ∙ z)))
 
   pub turn-holding : (rule : ℕ) → rule ≡ firstRule table next → (next ≡ 0 → ⊥) → (rule ≡ 0 → ⊥)
       → orFound table at found (inward (take left word)) ≡ orFound table next rule (inward (take (left - 1) word))
@@ -107,20 +117,22 @@ module _ (table : List ℕ) (word : List ℕ) (at found left one next : ℕ) (mo
 
 -- One turn along the letters of an ending, of which those from `left` on are passed
 
-module _ (table : List ℕ) (root : ℕ) (ending : List ℕ) (at left one next : ℕ) (more : 0 < left) (within : left ≤ length ending)
-    (last : one ≡ getD ending (left - 1) 0) (stepped : next ≡ child table at one) (there : reached table root (drop left ending) ≡ some at) where
+module _ {table ending : List ℕ} {at left one next : ℕ} (turn : Turn table ending at left one next) (root : ℕ)
+    (there : reached table root (drop left ending) ≡ some at) where
   one-more : drop (left - 1) ending ≡ one ∷ drop left ending
   one-more =
+      let more = turn .more in
+      let within = turn .within in
       let counted : suc (left - 1) ≡ left = omega arith in
-      drop-cons ending (left - 1) 0 (omega arith) ∙ rw (counted, last)
+      drop-cons ending (left - 1) 0 (omega arith) ∙ rw (counted, turn .last)
 
   pub reached-on : (next ≡ 0 → ⊥) → reached table root (drop (left - 1) ending) ≡ some next
   unfolding reached onward
-  reached-on e = rw one-more (rw (there, onward, ← stepped, ne-eqb next 0 e))
+  reached-on e = rw one-more (rw (there, onward, ← turn .stepped, ne-eqb next 0 e))
 
   pub reached-end : next ≡ 0 → reached table root (drop (left - 1) ending) ≡ none
   unfolding reached onward
-  reached-end e = rw one-more (rw (there, onward, ← stepped, eq-eqb next 0 e))
+  reached-end e = rw one-more (rw (there, onward, ← turn .stepped, eq-eqb next 0 e))
 
 -- no longer path exists where this one does not
 pub reached-nowhere : (table : List ℕ) (root : ℕ) (front tail : List ℕ) → reached table root tail ≡ none → reached table root (front ++ tail) ≡ none

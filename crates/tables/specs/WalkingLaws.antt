@@ -1,5 +1,5 @@
 -- Walking the groups of a sheet one after another, record by record. Assumes nothing.
-use Prim.Native.Nat.{ℕ, suc, _+_, _≤_, _<_}
+use Prim.Native.Nat.{ℕ, suc, _+_}
 use mathlib.Core.Path.{_≡_, sym, ap, subst, _∙_}
 use mathlib.Core.Bool.{Bool, true, false, cond, _||_}
 use mathlib.Core.List.{List, [], _∷_}
@@ -9,13 +9,13 @@ use lib.Dec.{eqb, leb}
 use lib.ListN.{length, take, drop}
 use lib.Seq.{take-length}
 use Rattle.paper.specs.Groups.{Rule, Gate, always, if-opened, Group, Result, done, outgrown, runs}
-use Rattle.sheets.specs.Records.{gate}
-use Rattle.sheets.specs.RecordLaws.{GroupHere, RuleHere, EndHere}
+use Rattle.sheets.specs.Answers.{recordIn}
+use Rattle.sheets.specs.declared.records.Record.the-variants.{End as EndRecord}
 use Rattle.tables.specs.Walk.{walkGroup, walk, walkWord}
 use Rattle.paper.specs.TestLaws.{by-test}
 use Rattle.tables.specs.Answers.{groupsOf}
 use Rattle.tables.specs.GoingLaws.{Accepted}
-use Rattle.tables.specs.SheetPlaces.{Holding, holding-start, GroupNext, group-next, rule-next, end-next}
+use Rattle.tables.specs.SheetPlaces.{Holding, holding-start, GroupNext, RuleNext, end-next}
 use Rattle.tables.specs.TryLaws.{rulesOf, groupsAfter, restAt, Readable}
 use Rattle.tables.specs.StepLaws.{Stepped}
 
@@ -31,10 +31,10 @@ unfolding walkWord
 walking-start table sheet first is =
     record { list = []; more = groupsOf sheet; holds = holding-start sheet (groupsOf sheet) is; decides = rw take-length }
 
-pub readable : (sheet : List ℕ) (at groups rules : ℕ) (list : List Rule) (more : List Group) → Holding sheet at groups rules list more
+readable : {sheet : List ℕ} {at groups rules : ℕ} {list : List Rule} {more : List Group} → Holding sheet at groups rules list more
     → Readable sheet at groups rules × (rulesOf (restAt sheet at groups rules) ≡ list)
 unfolding rulesOf groupsAfter
-readable sheet at groups rules list more e = (rw e, rw e)
+readable here = (rw (here .rest-is), rw (here .rest-is))
 
 -- the group is run, or not
 runs-by : (number : ℕ) (opened : Bool) → runs (cond (eqb number 0) always if-opened) opened ≡ (eqb number 0 || opened)
@@ -61,17 +61,11 @@ module _ (table : List ℕ) (place root number : ℕ) (list : List Group) (group
   unfolding walk
   walk-skip e = rw (split, e)
 
-module _ (table sheet first : List ℕ) (at next rules : ℕ) (opened : Bool) (word : List ℕ)
+module _ {table sheet first : List ℕ} {at next rules : ℕ} {opened : Bool} {word : List ℕ}
     (state : Walking table sheet first at next rules opened word) where
-  module _ (number : ℕ) (here : GroupHere (drop at sheet) number) where
-    abbrev found : GroupNext sheet at next rules (state .list) (state .more)
-    found = group-next sheet at next rules (state .list) (state .more) (state .holds) number here
-
+  module _ {number : ℕ} (found : GroupNext (state .holds) number) where
     pub walking-readable : Readable sheet (at + 6) (next + 1) rules
-    walking-readable = readable sheet (at + 6) (next + 1) rules (found .rules-then) (found .groups-then) (found .holds) .0
-
-    pub walking-inside : (at + 6 ≤ length sheet) × (next < 16)
-    walking-inside = (found .inside, found .few)
+    walking-readable = readable (found .holds) .0
 
     number-here : rules + 1 + length (state .list) ≡ rules + 1
     number-here = let none = ap length (found .none-before) in omega (arith, none)
@@ -80,11 +74,10 @@ module _ (table sheet first : List ℕ) (at next rules : ℕ) (opened : Bool) (w
     from-here = rw number-here at (state .decides)
 
     gated : (test : Bool) → (eqb number 0 || opened) ≡ test → runs (found .gate-then) opened ≡ test
-    unfolding gate
-    gated test t = ap (λ (one : Gate). runs one opened) (found .gate-is) ∙ rw (← here .gate-is) (runs-by number opened ∙ t)
+    gated test t = ap (λ (one : Gate). runs one opened) (found .gate-is) ∙ runs-by number opened ∙ t
 
     rules-here : rulesOf (restAt sheet (at + 6) (next + 1) rules) ≡ found .rules-then
-    rules-here = readable sheet (at + 6) (next + 1) rules (found .rules-then) (found .groups-then) (found .holds) .1
+    rules-here = readable (found .holds) .1
 
     abbrev own : Group
     own = record { gate = found .gate-then; rules = found .rules-then }
@@ -128,21 +121,16 @@ module _ (table sheet first : List ℕ) (at next rules : ℕ) (opened : Bool) (w
           (found .group-first) (gated true t) (sym (step-own .fits-is) ∙ f))
           ∙ from-here
 
-  pub walking-rule : (s1 s2 : ℕ) → RuleHere (drop at sheet) s1 s2
-      → Walking table sheet first (at + (8 + s1 + s2)) next (rules + 1) opened word × (at + (8 + s1 + s2) ≤ length sheet) × (rules < 128)
-  walking-rule s1 s2 here =
-      let found = rule-next sheet at next rules (state .list) (state .more) (state .holds) s1 s2 here in
+  pub walking-rule : {s1 s2 : ℕ} → RuleNext (state .holds) s1 s2 → Walking table sheet first (at + (8 + s1 + s2)) next (rules + 1) opened word
+  walking-rule found =
       let shorter = ap length (found .rule-first) in
-      let same-number : rules + 1 + 1 + length (found .rules-then) ≡ rules + 1 + length (state .list) = omega (arith, shorter) in (
-        record { list = found .rules-then; more = state .more; holds = found .holds; decides = rw same-number (state .decides) },
-        found .inside,
-        found .few,
-      )
+      let same-number : rules + 1 + 1 + length (found .rules-then) ≡ rules + 1 + length (state .list) = omega (arith, shorter) in
+      record { list = found .rules-then; more = state .more; holds = found .holds; decides = rw same-number (state .decides) }
 
-  pub walking-end : EndHere (drop at sheet) → done word ≡ walkWord table (groupsOf sheet) first
+  pub walking-end : recordIn (drop at sheet) ≡ EndRecord → done word ≡ walkWord table (groupsOf sheet) first
   unfolding walk
   walking-end here =
-      let over = end-next sheet at next rules (state .list) (state .more) (state .holds) here in
+      let over = end-next (state .holds) here in
       ended (state .more) (over .1) ∙ state .decides
     where
       ended : (more : List Group) → more ≡ [] → done word ≡ walk table (length first) next (rules + 1 + length (state .list)) more opened word

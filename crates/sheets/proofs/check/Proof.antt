@@ -12,14 +12,13 @@ use Rattle.sheets.specs.Records.{body, gateNumber, misplacedGroup, mispl
 use Rattle.sheets.specs.RecordLaws.{GroupHere, RuleHere, group-here, rule-here, end-here, fault-here}
 use Rattle.sheets.specs.SheetLaws.{fault-alone, group-fault, rule-fault, faulty-empty}
 use Rattle.sheets.specs.ReadRecords.{few-groups, few-rules}
+use Rattle.sheets.specs.PlaceLaws.{group-inside, rule-inside}
 use Rattle.sheets.specs.CheckLaws.{
   State,
   starts,
   faulty-record,
   last-record,
-  group-inside,
   group-next,
-  rule-inside,
   ending-short,
   shared-short,
   rule-next,
@@ -86,7 +85,7 @@ add-nodes c = let turn = c .before .before .before .before .before .before .befo
 
 group-within : (c : tie.Else1 Inv-loop μ-loop) → c .before .before .before .before .before .before .before .loop .at + 6
     ≤ length (c .before .before .before .before .before .before .before .before .before .args .sheet .now)
-group-within c = group-inside (c .before .before .before .before .before .before .before .loop .inv .5) (group-of (c .before))
+group-within c = group-inside _ _ (group-of (c .before))
 
 add-at : tie.Need-add-at Inv-loop μ-loop
 add-at c = let within = group-within c in omega arith
@@ -158,7 +157,7 @@ add-nodes-2 c = let turn = c .before .before .before .before .before .before .be
 rule-within : (c : tie.After-longest-shared Inv-loop μ-loop)
     → c .before .before .before .before .before .before .before .before .loop .at + (8 + s1 (c .before .before) + s2
     (c .before .before)) ≤ length (c .before .before .before .before .before .before .before .before .before .before .args .sheet .now)
-rule-within c = rule-inside (c .before .before .before .before .before .before .before .before .loop .inv .5) (rule-of (c .before .before))
+rule-within c = rule-inside _ _ (rule-of (c .before .before))
 
 add-at-2 : tie.Need-add-at-2 Inv-loop μ-loop
 add-at-2 c = let within = rule-within c in omega arith

@@ -1,10 +1,12 @@
 -- The answers, one by one. Assumes nothing.
-use Prim.Native.Nat.{_*_}
-use mathlib.Core.Path.{refl, sym, _∙_}
+use Prim.Native.Nat.{_*_, _≤_}
+use mathlib.Core.Path.{_≡_, refl, sym, _∙_}
 use native.Mathlib.Omega.{arith}
 use lib.Seq.{length-take-le}
 use borrow.Author.Tests.{not-true, not-false}
-use Rattle.tables.specs.GoingLaws.{small-table}
+use Rattle.sheets.specs.Nodes.{nodeCount}
+use Rattle.tables.specs.Answers.{groupsOf}
+use Rattle.tables.specs.GoingLaws.{Accepted}
 use Rattle.tables.specs.RunLaws.{run-refused, never-short, run-accepted, run-missing, run-other, run-right}
 use borrow.Author.Needs.{needs}
 use Rattle.tables.proofs.run.Statement.{statement}
@@ -25,18 +27,22 @@ enum-told c = search needs
 enum-known-found-2 : tie.Need-enum-known-found-2
 enum-known-found-2 c = search needs
 
-mul-size : tie.Need-mul-size
-mul-size c =
+-- the sheet is accepted, and its table is small
+accepted-of : (c : tie.After-known-told2)
+    → (let sheet = c .before .before .before .before .before .before .before .before .before .args .sheet .now in
+    let nodes = c .before .found2 .given .0 .0 in
+    Accepted sheet × (nodes ≡ nodeCount (groupsOf sheet)) × (4 * nodes ≤ 6208))
+accepted-of c =
     let a = c .before .before .before .before .before .before .before .before .before .args in
-    let is = run-accepted (a .sheet .now) _ (a .table .now) (a .word .now) _ (sym (c .before .found2 .given .1)
-    ∙ c .before .before .before .before .translate .ensures .0) in
-    omega (arith, small-table (a .sheet .now) (is .0), is .1)
+    run-accepted (a .sheet .now) _ (a .table .now) (a .word .now) _
+    (sym (c .before .found2 .given .1) ∙ c .before .before .before .before .translate .ensures .0)
+
+mul-size : tie.Need-mul-size
+mul-size c = let small = accepted-of c .2 in omega arith
 
 returns : tie.Need-returns
 returns c =
-    let a = c .before .before .before .before .before .before .before .before .before .before .args in
-    run-missing (a .sheet .now) _ (a .table .now) (a .word .now) _ (sym (c .before .before .found2 .given .1)
-    ∙ c .before .before .before .before .before .translate .ensures .0) (c .if1 .taken)
+    run-missing _ _ _ _ _ (sym (c .before .before .found2 .given .1) ∙ c .before .before .before .before .before .translate .ensures .0) (c .if1 .taken)
 
 slice-aggregate-same-numbers : tie.Need-slice-aggregate-same-numbers
 slice-aggregate-same-numbers c = sym (length-take-le (4 * c .before .before .before .found2 .given .0 .0)
@@ -45,37 +51,23 @@ slice-aggregate-same-numbers c = sym (length-take-le (4 * c .before .before .bef
 
 array-share-prefix-own : tie.Need-array-share-prefix-own
 array-share-prefix-own c =
-    let a = c .before .before .before .before .before .before .before .before .before .before .before .args in
-    let is = run-accepted (a .sheet .now) _ (a .table .now) (a .word .now) _ (sym
-    (c .before .before .before .found2 .given .1) ∙
-    c .before .before .before .before .before .before .translate .ensures .0) in
-    let within = small-table (a .sheet .now) (is .0) in
+    let small = accepted-of (c .before .before) .2 in
     let long = c .before .before .before .before .before .before .translate .kept .1 .0 in
-    omega (arith, within, long, is .1)
+    omega arith
 
 slice-aggregate-same-numbers-2 : tie.Need-slice-aggregate-same-numbers-2
 slice-aggregate-same-numbers-2 c =
-    let a = c .before .before .before .before .before .before .before .before .before .before .before .before .args in
-    let is = run-accepted (a .sheet .now) _ (a .table .now) (a .word .now) _ (sym
-    (c .before .before .before .before .found2 .given .1)
-    ∙ c .before .before .before .before .before .before .before .translate .ensures .0) in
-    let within = small-table (a .sheet .now) (is .0) in
+    let small = accepted-of (c .before .before .before) .2 in
     let long = c .before .before .before .before .before .before .before .translate .kept .1 .0 in
-    sym (length-take-le (4 * c .before .before .before .before .found2 .given .0 .0)
-    (c .before .before .before .before .before .before .before .translate .last .1 .0) (omega
-    (arith, within, long, is .1)))
+    sym (length-take-le (4 * c .before .before .before .before .found2 .given .0 .0) (c .before .before .before .before .before .before .before .translate .last .1 .0) (omega arith))
 
 same-numbers-requires : tie.Need-same-numbers-requires
 same-numbers-requires c κs = search needs
 
 returns-2 : tie.Need-returns-2
 returns-2 c =
-    let a = c .before .before .before .before .before .before .before .before .before .before .before .before .before .before .args in
-    run-other (a .sheet .now) _ (a .table .now) (a .word .now) _ (sym
-    (c .before .before .before .before .before .before .found2 .given .1)
-    ∙ c .before .before .before .before .before .before .before .before .before .translate .ensures .0) _
-    (c .before .before .before .before .before .before .before .before .before .translate .ensures .1) _
-    (c .before .same-numbers .ensures) (not-true _ (c .if2 .taken))
+    run-other _ _ _ _ _ (sym (c .before .before .before .before .before .before .found2 .given .1) ∙ c .before .before .before .before .before .before .before .before .before .translate .ensures .0) _
+    (c .before .before .before .before .before .before .before .before .before .translate .ensures .1) _ (c .before .same-numbers .ensures) (not-true _ (c .if2 .taken))
 
 slice-aggregate-word-run : tie.Need-slice-aggregate-word-run
 slice-aggregate-word-run c = sym (length-take-le (4 *
@@ -83,17 +75,10 @@ slice-aggregate-word-run c = sym (length-take-le (4 *
     (c .before .before .before .before .before .before .before .before .before .before .before .before .before .before .before .args .table .now) (c .before .before .before .before .before .if1 .left))
 
 word-run-requires : tie.Need-word-run-requires
-word-run-requires c κs =
-    let a = c .before .before .before .before .before .before .before .before .before .before .before .before .before .before .before .before .args in
-    run-accepted (a .sheet .now) _ (a .table .now) (a .word .now) _ (sym
-    (c .before .before .before .before .before .before .before .before .found2 .given .1)
-    ∙ c .before .before .before .before .before .before .before .before .before .before .before .translate .ensures .0) .0
+word-run-requires c κs = accepted-of (c .before .before .before .before .before .before .before) .0
 
 returns-3 : tie.Need-returns-3
-returns-3 c =
-    let a = c .before .before .before .before .before .before .before .before .before .args in
-    run-refused (a .sheet .now) _ (a .table .now) (a .word .now) _ (sym (c .before .found .given .1)
-    ∙ c .before .before .before .before .translate .ensures .0)
+returns-3 c = run-refused _ _ _ _ _ (sym (c .before .found .given .1) ∙ c .before .before .before .before .translate .ensures .0)
 
 returns-4 : tie.Need-returns-4
 returns-4 c =
@@ -106,10 +91,12 @@ same-length c = search needs
 
 returns-5 : tie.Need-returns-5
 returns-5 c =
-    let a = c .before .before .before .before .before .before .before .before .before .before .before .before .before .before .before .before .before .before .before .args in
-    run-right (a .sheet .now) _ (a .table .now) (a .word .now) _ (sym
-    (c .before .before .before .before .before .before .before .before .before .before .before .found2 .given .1)
-    ∙ c .before .before .before .before .before .before .before .before .before .before .before .before .before .before .translate .ensures .0) _ (c .before .before .before .before .before .before .before .before .before .before .before .before .before .before .translate .ensures .1) _ (c .before .before .before .before .before .before .same-numbers .ensures) _ _ (not-false _ (c .before .before .before .before .before .if2 .left)) (c .before .before .word-run .ensures)
+    run-right _ _ _ _ _
+    (sym (c .before .before .before .before .before .before .before .before .before .before .before .found2 .given .1)
+    ∙ c .before .before .before .before .before .before .before .before .before .before .before .before .before .before .translate .ensures .0) _
+    (c .before .before .before .before .before .before .before .before .before .before .before .before .before .before .translate .ensures .1) _
+    (c .before .before .before .before .before .before .same-numbers .ensures) _ _
+    (not-false _ (c .before .before .before .before .before .if2 .left)) (c .before .before .word-run .ensures)
 
 pub run-spec : {M : Type 1} → statement M
 run-spec =

@@ -1,18 +1,16 @@
 -- The loop's invariant: the rules that are left decide. Assumes nothing.
-use Prim.Native.Nat.{_+_, _-_, _≤_, _<_}
+use Prim.Native.Nat.{_-_, _≤_, _<_}
 use mathlib.Core.Path.{sym, _∙_}
 use native.Mathlib.Omega.{arith}
 use lib.ListN.{length}
 use borrow.Author.Needs.{needs}
-use Rattle.sheets.specs.RecordLaws.{group-here, end-here, fault-here}
-use Rattle.tables.specs.SheetPlaces.{never-over, never-alone}
+use Rattle.tables.specs.SheetPlaces.{RuleNext, never-over, never-alone, rule-next}
 use Rattle.tables.specs.RulePlaces.{rule-facts}
 use Rattle.tables.specs.TryLaws.{
   Trying,
   trying-start,
   trying-group,
   trying-end,
-  trying-inside,
   trying-here,
   trying-next,
 }
@@ -48,75 +46,57 @@ nothing-requires c κs = tt
 
 returns : tie.Need-returns Inv-loop μ-loop
 returns c =
-    let a = c .before .before .before .before .before .before .before .before .before .args in
-    let turn = c .before .before .before .before .before .loop in
-    rw (trying-group (a .table .now) (a .root) (a .found) (a .word .now) (a .sheet .now) (a .groups) (a .at) (a .rules)
-    (turn .place) (turn .number) (turn .inv .3) _ (group-here _ _ (sym (c .before .before .before .draw .ensures)
-    ∙ c .before .enum-told .given .1))) (c .nothing .ensures)
+    rw (trying-group (c .before .before .before .before .before .loop .inv .3)
+    (sym (c .before .before .before .draw .ensures) ∙ c .before .enum-told .given .1))
+    (c .nothing .ensures)
 
 enum-known-record : tie.Need-enum-known-record Inv-loop μ-loop
 enum-known-record c = search needs
 
--- the rule that was found stands within the sheet
-inside-of : (c : tie.After-known-told Inv-loop μ-loop)
-    → (c .before .before .before .before .before .loop .place +
-    (8 + c .before .record .given .0 .1 .1 .1 .0 + c .before .record .given .0 .1 .1 .1 .1 .0) ≤ length
-    (c .before .before .before .before .before .before .before .before .before .args .sheet .now))
-    × (c .before .before .before .before .before .loop .number < 128)
-inside-of c =
-    let a = c .before .before .before .before .before .before .before .before .before .args in
-    let turn = c .before .before .before .before .before .loop in
-    trying-inside (a .table .now) (a .root) (a .found) (a .word .now) (a .sheet .now) (a .groups) (a .at) (a .rules)
-    (turn .place) (turn .number) (turn .inv .3) _ _ _ _ _ (sym (c .before .before .before .draw .ensures)
-    ∙ c .before .record .given .1)
+rule-of : (c : tie.After-known-told Inv-loop μ-loop)
+    → (let numbers = c .before .record .given .0 in
+    RuleNext (c .before .before .before .before .before .loop .inv .3 .holds-here) (numbers .1 .1 .1 .0) (numbers .1 .1 .1 .1 .0))
+rule-of c =
+    rule-next (c .before .before .before .before .before .loop .inv .3 .holds-here)
+    (sym (c .before .before .before .draw .ensures) ∙ c .before .record .given .1)
 
 add-number : tie.Need-add-number Inv-loop μ-loop
-add-number c = let few = inside-of c .1 in omega arith
+add-number c = let few = rule-of c .few in omega arith
 
 obeys-requires : tie.Need-obeys-requires Inv-loop μ-loop
-obeys-requires c κs = let inside = inside-of c .0 in (
+obeys-requires c κs = let inside = rule-of c .inside in (
   omega arith,
   c .before .before .before .before .before .before .before .before .before .pre .1 .1 .1 .1,
 )
 
 returns-2 : tie.Need-returns-2 Inv-loop μ-loop
 returns-2 c =
-    let a = c .before .before .before .before .before .before .before .before .before .before .before .args in
     let turn = c .before .before .before .before .before .before .before .loop in
     let found = sym (c .before .before .before .before .before .draw .ensures) ∙ c .before .before .before .record .given .1 in
-    let taken = sym (c .before .obeys .ensures) ∙ c .if1 .taken in
-    rw (trying-here (a .table .now) (a .root) (a .found) (a .word .now) (a .sheet .now) (a .groups) (a .at) (a .rules)
-    (turn .place) (turn .number) (turn .inv .3) _ _ _ _ _ found taken) (
-      turn .inv .1,
-      _,
-      rule-facts (a .sheet .now)
-          (turn .place) _ _ _ _ _ found,
-    )
+    rw (trying-here (turn .inv .3) found (sym (c .before .obeys .ensures) ∙ c .if1 .taken))
+    (turn .inv .1, _, rule-facts (c .before .before .before .before .before .before .before .before .before .before .before .args .sheet .now) (turn .place) _ _ _ _ _ found)
 
 add-place : tie.Need-add-place Inv-loop μ-loop
-add-place c = let inside = inside-of (c .before .before) .0 in omega arith
+add-place c = let inside = rule-of (c .before .before) .inside in omega arith
 
 add-place-2 : tie.Need-add-place-2 Inv-loop μ-loop
-add-place-2 c = let inside = inside-of (c .before .before) .0 in omega arith
+add-place-2 c = let inside = rule-of (c .before .before) .inside in omega arith
 
 add-place-3 : tie.Need-add-place-3 Inv-loop μ-loop
-add-place-3 c = let inside = inside-of (c .before .before) .0 in omega arith
+add-place-3 c = let inside = rule-of (c .before .before) .inside in omega arith
 
 loop-less : tie.Need-loop-less Inv-loop μ-loop
-loop-less c = let inside = inside-of (c .before .before) .0 in omega arith
+loop-less c = let inside = rule-of (c .before .before) .inside in omega arith
 
 loop-again : tie.Need-loop-again Inv-loop μ-loop
 loop-again c =
-    let a = c .before .before .before .before .before .before .before .before .before .before .before .args in
     let turn = c .before .before .before .before .before .before .before .loop in
     let found = sym (c .before .before .before .before .before .draw .ensures) ∙ c .before .before .before .record .given .1 in
-    let left = sym (c .before .obeys .ensures) ∙ c .if1 .left in
-    let inside = inside-of (c .before .before) in (
-      inside .0,
+    let next = rule-of (c .before .before) in (
+      next .inside,
       omega arith,
-      omega (arith, inside .1),
-      trying-next (a .table .now) (a .root) (a .found) (a .word .now)
-          (a .sheet .now) (a .groups) (a .at) (a .rules) (turn .place) (turn .number) (turn .inv .3) _ _ _ _ _ found left,
+      omega (arith, next .few),
+      trying-next (turn .inv .3) found (sym (c .before .obeys .ensures) ∙ c .if1 .left),
     )
 
 enum-told-2 : tie.Need-enum-told-2 Inv-loop μ-loop
@@ -127,11 +107,9 @@ nothing-requires-2 c κs = tt
 
 returns-3 : tie.Need-returns-3 Inv-loop μ-loop
 returns-3 c =
-    let a = c .before .before .before .before .before .before .before .before .before .args in
-    let turn = c .before .before .before .before .before .loop in
-    rw (trying-end (a .table .now) (a .root) (a .found) (a .word .now) (a .sheet .now) (a .groups) (a .at) (a .rules)
-    (turn .place) (turn .number) (turn .inv .3) (end-here _ (sym (c .before .before .before .draw .ensures)
-    ∙ c .before .enum-told2 .given .1))) (c .nothing2 .ensures)
+    rw (trying-end (c .before .before .before .before .before .loop .inv .3)
+    (sym (c .before .before .before .draw .ensures) ∙ c .before .enum-told2 .given .1))
+    (c .nothing2 .ensures)
 
 enum-told-3 : tie.Need-enum-told-3 Inv-loop μ-loop
 enum-told-3 c = search needs
@@ -141,23 +119,15 @@ nothing-requires-3 c κs = tt
 
 returns-4 : tie.Need-returns-4 Inv-loop μ-loop
 returns-4 c =
-    let a = c .before .before .before .before .before .before .before .before .before .args in
-    let turn = c .before .before .before .before .before .loop in
-    let state = turn .inv .3 in
     absurd
-    (never-alone (a .sheet .now) (turn .place) (a .groups) (turn .number) (state .list) (state .more) (state .holds-here)
-    (fault-here _ (sym (c .before .before .before .draw .ensures) ∙ c .before .enum-told3 .given .1)))
+    (never-alone (c .before .before .before .before .before .loop .inv .3 .holds-here)
+    (sym (c .before .before .before .draw .ensures) ∙ c .before .enum-told3 .given .1))
 
 nothing-requires-4 : tie.Need-nothing-requires-4 Inv-loop μ-loop
 nothing-requires-4 c κs = tt
 
 returns-5 : tie.Need-returns-5 Inv-loop μ-loop
-returns-5 c =
-    let a = c .before .before .before .before .before .before .args in
-    let turn = c .before .before .loop in
-    let state = turn .inv .3 in
-    let short = never-over (a .sheet .now) (turn .place) (a .groups) (turn .number) (state .list) (state .more) (state .holds-here) in
-    absurd (omega (arith, c .before .loop-test .left))
+returns-5 c = let short = never-over (c .before .before .loop .inv .3 .holds-here) in absurd (omega (arith, c .before .loop-test .left))
 
 pub tried-at-spec : {M : Type 1} → statement M
 tried-at-spec =

@@ -4,8 +4,9 @@ use mathlib.Core.Path.{_≡_, sym}
 use native.Mathlib.Omega.{arith}
 use lib.ListN.{length, take, drop, length-drop}
 use lib.Seq.{length-take-le}
-use Rattle.tables.specs.TryLaws.{picked, rulesOf, restAt, none-picked-as, some-picked-as}
-use Rattle.tables.specs.StepLaws.{step-none, step-turned-down, step-single, step-replace, step-outgrown}
+use Rattle.tables.specs.Walk.{walkGroup}
+use Rattle.tables.specs.TryLaws.{rulesOf, restAt, none-picked-as, some-picked-as}
+use Rattle.tables.specs.StepLaws.{step-none, step-turned-down, Obeyed, obeyed}
 use borrow.Author.Needs.{needs}
 use Rattle.tables.proofs.runs.walk_group.Statement.{statement}
 use Rattle.tables.proofs.runs.walk_group.Tie as tie
@@ -25,11 +26,8 @@ same-length c = search needs
 
 returns : tie.Need-returns
 returns c =
-    let a = c .before .before .before .before .before .before .args in
-    let rest = rulesOf (restAt (a .sheet .now) (a .at) (a .groups) (a .rules)) in
     let within = c .before .before .before .before .before .before .pre .1 .1 .1 .1 .1 in
-    step-none (a .table .now) (a .root) (a .rules + 1) (a .word .now) (a .size) rest (c .before .deepest .result) within
-    (c .before .deepest .ensures) (c .if1 .taken)
+    step-none _ _ _ _ _ _ _ within (c .before .deepest .ensures) (c .if1 .taken)
 
 slice-reshare-prefix-tried-at : tie.Need-slice-reshare-prefix-tried-at
 slice-reshare-prefix-tried-at c = search needs
@@ -47,13 +45,21 @@ same-length-2 c = search needs
 
 returns-2 : tie.Need-returns-2
 returns-2 c =
-    let a = c .before .before .before .before .before .before .before .before .before .args in
-    let rest = rulesOf (restAt (a .sheet .now) (a .at) (a .groups) (a .rules)) in
     let within = c .before .before .before .before .before .before .before .before .before .pre .1 .1 .1 .1 .1 in
-    step-turned-down (a .table .now) (a .root) (a .rules + 1) (a .word .now) (a .size) rest
-    (c .before .before .before .before .deepest .result) within
-    (c .before .before .before .before .deepest .ensures) (c .before .before .before .if1 .left)
-    (none-picked-as (a .sheet .now) _ _ _ _ _ _ (c .before .tried-at .ensures) (c .if2 .taken))
+    step-turned-down _ _ _ _ _ _ _ within (c .before .before .before .before .deepest .ensures) (c .before .before .before .if1 .left)
+    (none-picked-as _ _ _ _ _ _ _ (c .before .tried-at .ensures) (c .if2 .taken))
+
+-- a rule was picked, and so it is obeyed
+obeyed-of : (c : tie.Else2)
+    → (let a = c .before .before .before .before .before .before .before .before .before .args in
+    let rule = c .before .tried-at .result in
+    Obeyed (walkGroup (a .table .now) (a .root) (a .rules + 1) (take (a .size) (a .word .now))
+    (rulesOf (restAt (a .sheet .now) (a .at) (a .groups) (a .rules)))) (a .sheet .now) (a .word .now) (a .size)
+    (rule .place) (rule .action) (rule .opens) (rule .ending) (rule .replacement))
+obeyed-of c =
+    let within = c .before .before .before .before .before .before .before .before .before .pre .1 .1 .1 .1 .1 in
+    obeyed _ _ _ _ _ _ _ within (c .before .before .before .before .deepest .ensures) (c .before .before .before .if1 .left)
+    _ _ _ _ _ _ (some-picked-as _ _ _ _ _ _ _ (c .before .tried-at .ensures) (c .if2 .left))
 
 less-requires : tie.Need-less-requires
 less-requires c κs = search needs
@@ -66,22 +72,8 @@ same-length-3 c = search needs
 
 returns-3 : tie.Need-returns-3
 returns-3 c =
-    let a = c .before .before .before .before .before .before .before .before .before .before .before .before .before .before .args in
-    let rest = rulesOf (restAt (a .sheet .now) (a .at) (a .groups) (a .rules)) in
-    let within = c .before .before .before .before .before .before .before .before .before .before .before .before .before .before .pre .1 .1 .1 .1 .1 in
-    let rule = c .before .before .before .before .before .before .tried-at .result in
-    let it = some-picked-as (a .sheet .now) (picked (a .table .now) (a .root)
-    (c .before .before .before .before .before .before .before .before .before .deepest .result) (take (a .size)
-    (a .word .now)) (a .rules + 1) rest) (rule .place) (rule .action) (rule .opens) (rule .ending)
-    (rule .replacement) (c .before .before .before .before .before .before .tried-at .ensures)
-    (c .before .before .before .before .before .if2 .left) in
-    rw (c .less2 .ensures, c .before .before .before .before .less .ensures) (step-single (a .table .now) (a .root)
-    (a .rules + 1) (a .word .now) (a .size) rest
-    (c .before .before .before .before .before .before .before .before .before .deepest .result) within
-    (c .before .before .before .before .before .before .before .before .before .deepest .ensures) (a .sheet .now)
-    (rule .place) (it .condition) (rule .action) (rule .opens) (rule .ending) (rule .replacement) (it .one)
-    (it .facts) (c .before .before .before .before .before .before .before .before .if1 .left) (it .is-one)
-    (c .before .if3 .taken))
+    rw (c .less2 .ensures, c .before .before .before .before .less .ensures)
+    (obeyed-of (c .before .before .before .before .before) .single (c .before .if3 .taken))
 
 sub-if4 : tie.Need-sub-if4
 sub-if4 c = search needs
@@ -91,64 +83,17 @@ same-length-4 c = search needs
 
 returns-4 : tie.Need-returns-4
 returns-4 c =
-    let a = c .before .before .before .before .before .before .before .before .before .before .before .before .before .before .args in
-    let rest = rulesOf (restAt (a .sheet .now) (a .at) (a .groups) (a .rules)) in
-    let within = c .before .before .before .before .before .before .before .before .before .before .before .before .before .before .pre .1 .1 .1 .1 .1 in
-    let rule = c .before .before .before .before .before .before .tried-at .result in
-    let it = some-picked-as (a .sheet .now) (picked (a .table .now) (a .root)
-    (c .before .before .before .before .before .before .before .before .before .deepest .result) (take (a .size)
-    (a .word .now)) (a .rules + 1) rest) (rule .place) (rule .action) (rule .opens) (rule .ending)
-    (rule .replacement) (c .before .before .before .before .before .before .tried-at .ensures)
-    (c .before .before .before .before .before .if2 .left) in
     let room = rw (c .before .before .before .before .less .ensures) at (c .if4 .taken) in
-    step-outgrown (a .table .now) (a .root) (a .rules + 1) (a .word .now) (a .size) rest
-    (c .before .before .before .before .before .before .before .before .before .deepest .result) within
-    (c .before .before .before .before .before .before .before .before .before .deepest .ensures) (a .sheet .now)
-    (rule .place) (it .condition) (rule .action) (rule .opens) (rule .ending) (rule .replacement) (it .one)
-    (it .facts) (c .before .before .before .before .before .before .before .before .if1 .left) (it .is-one) _
-    (c .before .if3 .left) room
+    obeyed-of (c .before .before .before .before .before) .outgrown _ (c .before .if3 .left) room
 
 add-start : tie.Need-add-start
-add-start c =
-    let a = c .before .before .before .before .before .before .before .before .before .before .before .before .before .before .args in
-    let rest = rulesOf (restAt (a .sheet .now) (a .at) (a .groups) (a .rules)) in
-    let within = c .before .before .before .before .before .before .before .before .before .before .before .before .before .before .pre .1 .1 .1 .1 .1 in
-    let rule = c .before .before .before .before .before .before .tried-at .result in
-    let it = some-picked-as (a .sheet .now) (picked (a .table .now) (a .root)
-    (c .before .before .before .before .before .before .before .before .before .deepest .result) (take (a .size)
-    (a .word .now)) (a .rules + 1) rest) (rule .place) (rule .action) (rule .opens) (rule .ending)
-    (rule .replacement) (c .before .before .before .before .before .before .tried-at .ensures)
-    (c .before .before .before .before .before .if2 .left) in
-    let inside = it .facts .inside in
-    omega arith
+add-start c = let inside = obeyed-of (c .before .before .before .before .before) .inside in omega arith
 
 add-start-2 : tie.Need-add-start-2
-add-start-2 c =
-    let a = c .before .before .before .before .before .before .before .before .before .before .before .before .before .before .args in
-    let rest = rulesOf (restAt (a .sheet .now) (a .at) (a .groups) (a .rules)) in
-    let within = c .before .before .before .before .before .before .before .before .before .before .before .before .before .before .pre .1 .1 .1 .1 .1 in
-    let rule = c .before .before .before .before .before .before .tried-at .result in
-    let it = some-picked-as (a .sheet .now) (picked (a .table .now) (a .root)
-    (c .before .before .before .before .before .before .before .before .before .deepest .result) (take (a .size)
-    (a .word .now)) (a .rules + 1) rest) (rule .place) (rule .action) (rule .opens) (rule .ending)
-    (rule .replacement) (c .before .before .before .before .before .before .tried-at .ensures)
-    (c .before .before .before .before .before .if2 .left) in
-    let inside = it .facts .inside in
-    omega arith
+add-start-2 c = let inside = obeyed-of (c .before .before .before .before .before) .inside in omega arith
 
 add-end : tie.Need-add-end
-add-end c =
-    let a = c .before .before .before .before .before .before .before .before .before .before .before .before .before .before .args in
-    let rest = rulesOf (restAt (a .sheet .now) (a .at) (a .groups) (a .rules)) in
-    let within = c .before .before .before .before .before .before .before .before .before .before .before .before .before .before .pre .1 .1 .1 .1 .1 in
-    let rule = c .before .before .before .before .before .before .tried-at .result in
-    let it = some-picked-as (a .sheet .now) (picked (a .table .now) (a .root)
-    (c .before .before .before .before .before .before .before .before .before .deepest .result) (take (a .size)
-    (a .word .now)) (a .rules + 1) rest) (rule .place) (rule .action) (rule .opens) (rule .ending)
-    (rule .replacement) (c .before .before .before .before .before .before .tried-at .ensures)
-    (c .before .before .before .before .before .if2 .left) in
-    let inside = it .facts .inside in
-    omega arith
+add-end c = let inside = obeyed-of (c .before .before .before .before .before) .inside in omega arith
 
 sub-copy-in : tie.Need-sub-copy-in
 sub-copy-in c = search needs
@@ -157,34 +102,27 @@ part-copy-in-start : tie.Need-part-copy-in-start
 part-copy-in-start c = search needs
 
 part-copy-in-end : tie.Need-part-copy-in-end
-part-copy-in-end c =
-    let a = c .before .before .before .before .before .before .before .before .before .before .before .before .before .before .before .args in
-    let rest = rulesOf (restAt (a .sheet .now) (a .at) (a .groups) (a .rules)) in
-    let within = c .before .before .before .before .before .before .before .before .before .before .before .before .before .before .before .pre .1 .1 .1 .1 .1 in
-    let rule = c .before .before .before .before .before .before .before .tried-at .result in
-    let it = some-picked-as (a .sheet .now) (picked (a .table .now) (a .root)
-    (c .before .before .before .before .before .before .before .before .before .before .deepest .result) (take
-    (a .size) (a .word .now)) (a .rules + 1) rest) (rule .place) (rule .action) (rule .opens) (rule .ending)
-    (rule .replacement) (c .before .before .before .before .before .before .before .tried-at .ensures)
-    (c .before .before .before .before .before .before .if2 .left) in
-    let inside = it .facts .inside in
-    omega arith
+part-copy-in-end c = let inside = obeyed-of (c .before .before .before .before .before .before) .inside in omega arith
+
+-- the letters that are copied are as many as the rule's record says
+copied : (c : tie.Else2)
+    → (let sheet = c .before .before .before .before .before .before .before .before .before .args .sheet .now in
+    let rule = c .before .tried-at .result in
+    let start = rule .place + 8 + rule .ending in
+    length (take (start + rule .replacement - start) (drop start sheet)) ≡ rule .replacement)
+copied c =
+    let rule = c .before .tried-at .result in
+    let start = rule .place + 8 + rule .ending in
+    let sheet = c .before .before .before .before .before .before .before .before .before .args .sheet .now in
+    let inside = obeyed-of c .inside in
+    let size : start + rule .replacement - start ≡ rule .replacement = omega arith in
+    rw size (length-take-le (rule .replacement) (drop start sheet) (simp length-drop (omega arith)))
 
 copy-in-requires : tie.Need-copy-in-requires
 copy-in-requires c κs =
-    let a = c .before .before .before .before .before .before .before .before .before .before .before .before .before .before .before .before .args in
-    let rest = rulesOf (restAt (a .sheet .now) (a .at) (a .groups) (a .rules)) in
     let within = c .before .before .before .before .before .before .before .before .before .before .before .before .before .before .before .before .pre .1 .1 .1 .1 .1 in
-    let rule = c .before .before .before .before .before .before .before .before .tried-at .result in
-    let it = some-picked-as (a .sheet .now) (picked (a .table .now) (a .root)
-    (c .before .before .before .before .before .before .before .before .before .before .before .deepest .result)
-    (take (a .size) (a .word .now)) (a .rules + 1) rest) (rule .place) (rule .action) (rule .opens) (rule .ending)
-    (rule .replacement) (c .before .before .before .before .before .before .before .before .tried-at .ensures)
-    (c .before .before .before .before .before .before .before .if2 .left) in
-    let inside = it .facts .inside in
-    let start = rule .place + 8 + rule .ending in
-    let long = length-take-le (start + rule .replacement - start) (drop start (a .sheet .now)) (omega (arith, length-drop start (a .sheet .now))) in
-    omega (arith, long, c .before .before .if4 .left, c .before .before .before .before .before .before .less .ensures)
+    let long = copied (c .before .before .before .before .before .before .before) in
+    omega (arith, c .before .before .if4 .left, c .before .before .before .before .before .before .less .ensures)
 
 add-t24 : tie.Need-add-t24
 add-t24 c =
@@ -202,24 +140,16 @@ same-length-5 c = search needs
 
 returns-5 : tie.Need-returns-5
 returns-5 c =
-    let a = c .before .before .before .before .before .before .before .before .before .before .before .before .before .before .before .before .before .before .before .args in
-    let rest = rulesOf (restAt (a .sheet .now) (a .at) (a .groups) (a .rules)) in
-    let within = c .before .before .before .before .before .before .before .before .before .before .before .before .before .before .before .before .before .before .before .pre .1 .1 .1 .1 .1 in
     let rule = c .before .before .before .before .before .before .before .before .before .before .before .tried-at .result in
-    let it = some-picked-as (a .sheet .now) (picked (a .table .now) (a .root)
-    (c .before .before .before .before .before .before .before .before .before .before .before .before .before .before .deepest .result) (take (a .size) (a .word .now)) (a .rules + 1) rest) (rule .place) (rule .action) (rule .opens) (rule .ending) (rule .replacement) (c .before .before .before .before .before .before .before .before .before .before .before .tried-at .ensures) (c .before .before .before .before .before .before .before .before .before .before .if2 .left) in
-    let inside = it .facts .inside in
     let start = rule .place + 8 + rule .ending in
+    let part = c .before .before .before .before .before .before .before .before .before .less .ensures in
     let size : start + rule .replacement - start ≡ rule .replacement = omega arith in
-    let long : length (take (rule .replacement) (drop start (a .sheet .now)))
-    ≡ rule .replacement = length-take-le (rule .replacement) (drop start (a .sheet .now)) (omega
-    (arith, length-drop start (a .sheet .now))) in
-    let room = rw (c .before .before .before .before .before .before .before .before .before .less .ensures) at
-    (c .before .before .before .before .before .if4 .left) in
-    let stored = rw (size, long, c .before .before .before .before .before .before .before .before .before .less .ensures) at (c .before .before .copy-in .ensures) in
-    rw (c .before .before .before .before .before .before .before .before .before .less .ensures) (step-replace
-    (a .table .now) (a .root) (a .rules + 1) (a .word .now) (a .size) rest
-    (c .before .before .before .before .before .before .before .before .before .before .before .before .before .before .deepest .result) within (c .before .before .before .before .before .before .before .before .before .before .before .before .before .before .deepest .ensures) (a .sheet .now) (rule .place) (it .condition) (rule .action) (rule .opens) (rule .ending) (rule .replacement) (it .one) (it .facts) (c .before .before .before .before .before .before .before .before .before .before .before .before .before .if1 .left) (it .is-one) _ (c .before .before .before .before .before .before .if3 .left) room stored)
+    let room = rw part at (c .before .before .before .before .before .if4 .left) in
+    let long = copied (c .before .before .before .before .before .before .before .before .before .before) in
+    let stored = rw (long, size, part) at (c .before .before .copy-in .ensures) in
+    rw part
+    (obeyed-of (c .before .before .before .before .before .before .before .before .before .before) .replaced _
+    (c .before .before .before .before .before .before .if3 .left) room stored)
 
 pub walk-group-spec : {M : Type 1} → statement M
 walk-group-spec =

@@ -1,11 +1,10 @@
 -- The loop's invariant: the groups so far, and those that the rest of the sheet holds, are all. Assumes nothing.
-use Prim.Native.Nat.{_+_, _≤_, _<_, _-_}
+use Prim.Native.Nat.{_≤_, _-_}
 use mathlib.Core.Path.{sym, _∙_}
 use native.Mathlib.Omega.{arith}
 use lib.ListN.{length}
 use borrow.Author.Needs.{needs}
-use Rattle.sheets.specs.RecordLaws.{group-here, rule-here, end-here, fault-here}
-use Rattle.tables.specs.SheetPlaces.{never-over, never-alone}
+use Rattle.tables.specs.SheetPlaces.{GroupNext, RuleNext, never-over, never-alone, group-next, rule-next}
 use Rattle.tables.specs.GoingLaws.{Counting, counting-start, counting-group, counting-rule, counting-end}
 use Rattle.tables.proofs.sheet.group_count.Statement.{statement}
 use Rattle.tables.proofs.sheet.group_count.Tie as tie
@@ -26,87 +25,69 @@ enum-told : tie.Need-enum-told Inv-loop μ-loop
 enum-told c = search needs
 
 group-of : (c : tie.After-enum-told Inv-loop μ-loop)
-    → Counting (c .before .before .before .before .before .before .args .sheet .now)
-    (c .before .before .before .before .loop .at + 6) (c .before .before .before .before .loop .count + 1)
-    × (c .before .before .before .before .loop .at + 6 ≤ length
-    (c .before .before .before .before .before .before .args .sheet .now)) ×
-    (c .before .before .before .before .loop .count < 16)
+    → GroupNext (c .before .before .before .before .loop .inv .2 .holds) (c .enum-told .given .0 .0)
 group-of c =
-    let turn = c .before .before .before .before .loop in
-    counting-group (c .before .before .before .before .before .before .args .sheet .now) (turn .at) (turn .count)
-    (turn .inv .2) _ (group-here _ _ (sym (c .before .before .draw .ensures) ∙ c .enum-told .given .1))
+    group-next (c .before .before .before .before .loop .inv .2 .holds)
+    (sym (c .before .before .draw .ensures) ∙ c .enum-told .given .1)
 
 add-count : tie.Need-add-count Inv-loop μ-loop
-add-count c = let few = group-of c .2 in omega arith
+add-count c = let few = group-of c .few in omega arith
 
 add-at : tie.Need-add-at Inv-loop μ-loop
-add-at c = let inside = group-of c .1 in omega arith
+add-at c = let inside = group-of c .inside in omega arith
 
 loop-less : tie.Need-loop-less Inv-loop μ-loop
-loop-less c = let inside = group-of c .1 in omega arith
+loop-less c = let inside = group-of c .inside in omega arith
 
 loop-again : tie.Need-loop-again Inv-loop μ-loop
-loop-again c = let next = group-of c in (next .1, omega (arith, next .2), next .0)
+loop-again c =
+    let next = group-of c in
+    (next .inside, omega (arith, next .few), counting-group (c .before .before .before .before .loop .inv .2) next)
 
 enum-known-found : tie.Need-enum-known-found Inv-loop μ-loop
 enum-known-found c = search needs
 
 rule-of : (c : tie.After-known-told Inv-loop μ-loop)
-    → Counting (c .before .before .before .before .before .before .before .args .sheet .now)
-    (c .before .before .before .before .before .loop .at +
-    (8 + c .before .found .given .0 .1 .1 .1 .0 + c .before .found .given .0 .1 .1 .1 .1 .0))
-    (c .before .before .before .before .before .loop .count)
-    × (c .before .before .before .before .before .loop .at +
-    (8 + c .before .found .given .0 .1 .1 .1 .0 + c .before .found .given .0 .1 .1 .1 .1 .0) ≤ length
-    (c .before .before .before .before .before .before .before .args .sheet .now))
+    → (let numbers = c .before .found .given .0 in
+    RuleNext (c .before .before .before .before .before .loop .inv .2 .holds) (numbers .1 .1 .1 .0) (numbers .1 .1 .1 .1 .0))
 rule-of c =
-    let turn = c .before .before .before .before .before .loop in
-    counting-rule (c .before .before .before .before .before .before .before .args .sheet .now) (turn .at) (turn .count) (turn .inv .2) _ _
-    (rule-here _ _ _ _ _ _ (sym (c .before .before .before .draw .ensures) ∙ c .before .found .given .1))
+    rule-next (c .before .before .before .before .before .loop .inv .2 .holds)
+    (sym (c .before .before .before .draw .ensures) ∙ c .before .found .given .1)
 
 add-at-2 : tie.Need-add-at-2 Inv-loop μ-loop
-add-at-2 c = let inside = rule-of c .1 in omega arith
+add-at-2 c = let inside = rule-of c .inside in omega arith
 
 add-at-3 : tie.Need-add-at-3 Inv-loop μ-loop
-add-at-3 c = let inside = rule-of c .1 in omega arith
+add-at-3 c = let inside = rule-of c .inside in omega arith
 
 add-at-4 : tie.Need-add-at-4 Inv-loop μ-loop
-add-at-4 c = let inside = rule-of c .1 in omega arith
+add-at-4 c = let inside = rule-of c .inside in omega arith
 
 loop-less-2 : tie.Need-loop-less-2 Inv-loop μ-loop
-loop-less-2 c = let inside = rule-of c .1 in omega arith
+loop-less-2 c = let inside = rule-of c .inside in omega arith
 
 loop-again-2 : tie.Need-loop-again-2 Inv-loop μ-loop
-loop-again-2 c = let next = rule-of c in (next .1, c .before .before .before .before .before .loop .inv .1, next .0)
+loop-again-2 c =
+    let turn = c .before .before .before .before .before .loop in
+    (rule-of c .inside, turn .inv .1, counting-rule (turn .inv .2) (rule-of c))
 
 enum-told-2 : tie.Need-enum-told-2 Inv-loop μ-loop
 enum-told-2 c = search needs
 
 returns : tie.Need-returns Inv-loop μ-loop
-returns c =
-    let turn = c .before .before .before .before .loop in
-    counting-end (c .before .before .before .before .before .before .args .sheet .now) (turn .at) (turn .count)
-    (turn .inv .2) (end-here _ (sym (c .before .before .draw .ensures) ∙ c .enum-told2 .given .1))
+returns c = counting-end (c .before .before .before .before .loop .inv .2) (sym (c .before .before .draw .ensures) ∙ c .enum-told2 .given .1)
 
 enum-told-3 : tie.Need-enum-told-3 Inv-loop μ-loop
 enum-told-3 c = search needs
 
 returns-2 : tie.Need-returns-2 Inv-loop μ-loop
 returns-2 c =
-    let turn = c .before .before .before .before .loop in
-    let state = turn .inv .2 in
     absurd
-    (never-alone (c .before .before .before .before .before .before .args .sheet .now) (turn .at) (turn .count)
-    (state .rules) (state .list) (state .more) (state .holds)
-    (fault-here _ (sym (c .before .before .draw .ensures) ∙ c .enum-told3 .given .1)))
+    (never-alone (c .before .before .before .before .loop .inv .2 .holds)
+    (sym (c .before .before .draw .ensures) ∙ c .enum-told3 .given .1))
 
 returns-3 : tie.Need-returns-3 Inv-loop μ-loop
-returns-3 c =
-    let turn = c .before .loop in
-    let state = turn .inv .2 in
-    let short = never-over (c .before .before .before .args .sheet .now) (turn .at) (turn .count) (state .rules)
-    (state .list) (state .more) (state .holds) in
-    absurd (omega (arith, c .loop-test .left))
+returns-3 c = let short = never-over (c .before .loop .inv .2 .holds) in absurd (omega (arith, c .loop-test .left))
 
 pub group-count-spec : {M : Type 1} → statement M
 group-count-spec =

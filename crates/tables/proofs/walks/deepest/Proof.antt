@@ -8,7 +8,7 @@ use lib.ListN.{length, take}
 use lib.Seq.{take-length}
 use Rattle.paper.specs.Letters.{inward}
 use Rattle.tables.specs.Walk.{deepest as deepestOf}
-use Rattle.tables.specs.WalkSteps.{orFound, deepest-start, turn-missing, turn-holding, turn-empty, word-over}
+use Rattle.tables.specs.WalkSteps.{orFound, deepest-start, Turn, turn-missing, turn-holding, turn-empty, word-over}
 use Rattle.tables.proofs.walks.deepest.Statement.{statement}
 use Rattle.tables.proofs.walks.deepest.Tie as tie
 
@@ -48,15 +48,22 @@ wide-requires c κs = search needs
 child-requires : tie.Need-child-requires Inv-loop μ-loop
 child-requires c κs = search needs
 
+turn-of : (c : tie.After-child Inv-loop μ-loop)
+    → (let a = c .before .before .before .before .before .before .before .before .args in
+    let now = c .before .before .before .before .loop in
+    Turn (a .table .now) (a .word .now) (now .at) (now .left) (c .before .wide .result) (c .child .result))
+turn-of c =
+    record {
+      more = c .before .before .before .loop-test .taken;
+      within = c .before .before .before .before .loop .inv .2;
+      last = c .before .wide .ensures;
+      stepped = c .child .ensures .0;
+    }
+
 returns : tie.Need-returns Inv-loop μ-loop
 returns c =
-    let a = c .before .before .before .before .before .before .before .before .before .args in
-    let turn = c .before .before .before .before .before .loop in
-    let more = c .before .before .before .before .loop-test .taken in
-    let last = c .before .before .wide .ensures in
-    let stepped = c .before .child .ensures .0 in
-    sym (turn .inv .0 ∙ turn-missing (a .table .now) (a .word .now) (turn .at) (turn .found) (turn .left) _ _ more
-    (turn .inv .2) last stepped (c .if1 .taken))
+    let now = c .before .before .before .before .before .loop in
+    sym (now .inv .0 ∙ turn-missing (turn-of (c .before)) (now .found) (c .if1 .taken))
 
 mul-number-at-2 : tie.Need-mul-number-at-2 Inv-loop μ-loop
 mul-number-at-2 c = omega arith
@@ -72,16 +79,10 @@ loop-less c = omega arith
 
 loop-again : tie.Need-loop-again Inv-loop μ-loop
 loop-again c =
-    let a = c .before .before .before .before .before .before .before .before .before .before .before .args in
-    let turn = c .before .before .before .before .before .before .before .loop in
-    let more = c .before .before .before .before .before .before .loop-test .taken in
-    let last = c .before .before .before .before .wide .ensures in
-    let stepped = c .before .before .before .child .ensures in
+    let now = c .before .before .before .before .before .before .before .loop in
     let read = c .before .number-at2 .ensures .0 in (
-      turn .inv .0
-          ∙ turn-holding (a .table .now) (a .word .now) (turn .at) (turn .found) (turn .left) _ _ more (turn .inv .2) last (stepped .0) _ read
-          (c .before .before .if1 .left) (c .if2 .taken),
-      stepped .1,
+      now .inv .0 ∙ turn-holding (turn-of (c .before .before .before)) (now .found) _ read (c .before .before .if1 .left) (c .if2 .taken),
+      c .before .before .before .child .ensures .1,
       omega arith,
     )
 
@@ -90,24 +91,17 @@ loop-less-2 c = omega arith
 
 loop-again-2 : tie.Need-loop-again-2 Inv-loop μ-loop
 loop-again-2 c =
-    let a = c .before .before .before .before .before .before .before .before .before .before .before .args in
-    let turn = c .before .before .before .before .before .before .before .loop in
-    let more = c .before .before .before .before .before .before .loop-test .taken in
-    let last = c .before .before .before .before .wide .ensures in
-    let stepped = c .before .before .before .child .ensures in
+    let now = c .before .before .before .before .before .before .before .loop in
     let read = c .before .number-at2 .ensures .0 in (
-      turn .inv .0
-          ∙ turn-empty (a .table .now) (a .word .now) (turn .at) (turn .found) (turn .left) _ _ more (turn .inv .2) last (stepped .0) _ read
-          (c .before .before .if1 .left) (c .if2 .left),
-      stepped .1,
+      now .inv .0 ∙ turn-empty (turn-of (c .before .before .before)) (now .found) _ read (c .before .before .if1 .left) (c .if2 .left),
+      c .before .before .before .child .ensures .1,
       omega arith,
     )
 
 returns-2 : tie.Need-returns-2 Inv-loop μ-loop
 returns-2 c =
-    let turn = c .before .loop in
-    let none-left = word-over _ _ (turn .at) (turn .found) (turn .left) (c .loop-test .left) in
-    sym (turn .inv .0 ∙ none-left)
+    let now = c .before .loop in
+    sym (now .inv .0 ∙ word-over _ _ (now .at) (now .found) (now .left) (c .loop-test .left))
 
 pub deepest-spec : {M : Type 1} → statement M
 deepest-spec =

@@ -6,7 +6,7 @@ use native.Mathlib.Omega.{arith}
 use borrow.Author.Needs.{needs}
 use lib.ListN.{length, drop}
 use Rattle.tables.specs.Walk.{reached}
-use Rattle.tables.specs.WalkSteps.{reached-root, reached-on, reached-end, held-nowhere, held-reached}
+use Rattle.tables.specs.WalkSteps.{Turn, reached-root, reached-on, reached-end, held-nowhere, held-reached}
 use Rattle.tables.proofs.walks.held_at.Statement.{statement}
 use Rattle.tables.proofs.walks.held_at.Tie as tie
 
@@ -34,32 +34,32 @@ wide-requires c κs = search needs
 child-requires : tie.Need-child-requires Inv-loop μ-loop
 child-requires c κs = search needs
 
+turn-of : (c : tie.After-child Inv-loop μ-loop)
+    → (let a = c .before .before .before .before .before .before .before .args in
+    let now = c .before .before .before .before .loop in
+    Turn (a .table .now) (a .ending .now) (now .at) (now .left) (c .before .wide .result) (c .child .result))
+turn-of c =
+    record {
+      more = c .before .before .before .loop-test .taken;
+      within = c .before .before .before .before .loop .inv .2;
+      last = c .before .wide .ensures;
+      stepped = c .child .ensures .0;
+    }
+
 returns : tie.Need-returns Inv-loop μ-loop
 returns c =
     let a = c .before .before .before .before .before .before .before .before .args in
-    let turn = c .before .before .before .before .before .loop in
-    let more = c .before .before .before .before .loop-test .taken in
-    let last = c .before .before .wide .ensures in
-    let stepped = c .before .child .ensures .0 in
-    let nowhere = reached-end (a .table .now) (a .root) (a .ending .now) (turn .at) (turn .left) _ _ more
-    (turn .inv .2) last stepped (turn .inv .0) (c .if1 .taken) in
-    sym (held-nowhere (a .table .now) (a .root) (a .ending .now) (turn .left - 1) nowhere)
+    let now = c .before .before .before .before .before .loop in
+    sym (held-nowhere (a .table .now) (a .root) (a .ending .now) (now .left - 1)
+    (reached-end (turn-of (c .before)) (a .root) (now .inv .0) (c .if1 .taken)))
 
 loop-less : tie.Need-loop-less Inv-loop μ-loop
 loop-less c = omega arith
 
 loop-again : tie.Need-loop-again Inv-loop μ-loop
 loop-again c =
-    let a = c .before .before .before .before .before .before .before .before .args in
-    let turn = c .before .before .before .before .before .loop in
-    let more = c .before .before .before .before .loop-test .taken in
-    let last = c .before .before .wide .ensures in
-    let stepped = c .before .child .ensures in (
-      reached-on (a .table .now) (a .root) (a .ending .now) (turn .at) (turn .left) _ _ more (turn .inv .2) last
-          (stepped .0) (turn .inv .0) (c .if1 .left),
-      stepped .1,
-      omega arith,
-    )
+    let now = c .before .before .before .before .before .loop in
+    (reached-on (turn-of (c .before)) _ (now .inv .0) (c .if1 .left), c .before .child .ensures .1, omega arith)
 
 mul-number-at : tie.Need-mul-number-at Inv-loop μ-loop
 mul-number-at c = omega arith

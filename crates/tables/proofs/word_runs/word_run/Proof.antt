@@ -11,6 +11,7 @@ use Rattle.tables.specs.RanLaws.{
   ran-letter,
   ran-longer,
   ran-done,
+  Stem,
   left-of,
   outgrown-of,
   placed-letters,
@@ -21,16 +22,10 @@ use Rattle.tables.proofs.word_runs.word_run.Statement.{statement}
 use Rattle.tables.proofs.word_runs.word_run.Tie as tie
 
 returns : tie.Need-returns
-returns c =
-    let a = c .before .before .before .before .args in
-    let reading = walkWord (a .table .now) (groupsOf (a .sheet .now)) in
-    ran-empty reading (a .word .now) (c .if1 .taken)
+returns c = ran-empty _ _ (c .if1 .taken)
 
 returns-2 : tie.Need-returns-2
-returns-2 c =
-    let a = c .before .before .before .before .before .args in
-    let reading = walkWord (a .table .now) (groupsOf (a .sheet .now)) in
-    ran-long reading (a .word .now) (c .if2 .taken)
+returns-2 c = ran-long _ _ (c .if2 .taken)
 
 first-other-requires : tie.Need-first-other-requires
 first-other-requires c κs = search needs
@@ -40,10 +35,7 @@ same-length c = search needs
 
 returns-3 : tie.Need-returns-3
 returns-3 c =
-    let a = c .before .before .before .before .before .before .before .before .args in
-    let reading = walkWord (a .table .now) (groupsOf (a .sheet .now)) in
-    ran-letter reading (a .word .now) (c .before .before .before .before .if1 .left)
-    (c .before .before .before .if2 .left) _ (c .before .first-other .ensures) (c .if3 .taken)
+    ran-letter _ _ (c .before .before .before .before .if1 .left) (c .before .before .before .if2 .left) _ (c .before .first-other .ensures) (c .if3 .taken)
 
 slice-aggregate-copy-in : tie.Need-slice-aggregate-copy-in
 slice-aggregate-copy-in c = search needs
@@ -57,12 +49,15 @@ walk-groups-requires c κs = search needs
 enum-known-walked : tie.Need-enum-known-walked
 enum-known-walked c = search needs
 
+-- the letters that the walk left
+stem-of : (c : tie.After-known-told)
+    → (let a = c .before .before .before .before .before .before .before .before .before .before .before .before .before .before .before .before .before .before .before .args in
+    Stem (walkWord (a .table .now) (groupsOf (a .sheet .now)) (a .word .now)) (c .before .walked .given .0 .0)
+    (c .before .before .before .before .before .walk-groups .last .1 .1 .0))
+stem-of c = left-of _ _ _ _ (c .before .before .before .before .before .walk-groups .ensures) (c .before .walked .given .1)
+
 fill-requires : tie.Need-fill-requires
-fill-requires c κs =
-    let a = c .before .before .before .before .before .before .before .before .before .before .before .before .before .before .before .before .before .before .before .before .args in
-    let reading = walkWord (a .table .now) (groupsOf (a .sheet .now)) in
-    left-of (reading (a .word .now)) _ _ _ (c .before .before .before .before .before .before .walk-groups .ensures)
-    (c .before .before .walked .given .1) .within
+fill-requires c κs = stem-of (c .before) .within
 
 enum-told : tie.Need-enum-told
 enum-told c = search needs
@@ -76,40 +71,38 @@ slice-aggregate-copy-in-2 c = sym (length-take-le (length
 
 copy-in-requires-2 : tie.Need-copy-in-requires-2
 copy-in-requires-2 c κs =
-    let long = length-take-le (length
-    (c .before .before .before .before .before .before .before .before .before .before .before .before .before .before .before .before .before .before .before .before .args .word .now)) (c .before .before .before .before .before .before .before .before .before .copy-in .last .0) (omega (arith, c .before .before .before .before .before .before .before .before .before .copy-in .kept .0, c .before .before .before .before .before .before .before .before .before .before .before .before .before .before .before .if2 .left)) in
-    omega (arith, long, c .before .before .before .before .before .before .walk-groups .kept .1 .1 .0)
+    let long = slice-aggregate-copy-in-2 c in
+    omega (arith, c .before .before .before .before .before .before .walk-groups .kept .1 .1 .0)
 
 same-length-2 : tie.Need-same-length-2
 same-length-2 c = search needs
 
 returns-4 : tie.Need-returns-4
 returns-4 c =
-    let a = c .before .before .before .before .before .before .before .before .before .before .before .before .before .before .before .before .before .before .before .before .before .before .before .args in
-    let reading = walkWord (a .table .now) (groupsOf (a .sheet .now)) in
-    let left = left-of (reading (a .word .now)) _ _ _
-    (c .before .before .before .before .before .before .before .before .before .walk-groups .ensures)
-    (c .before .before .before .before .before .walked .given .1) in
-    let filled = placed-letters (a .word .now) (left .stem) _ _ _ (left .letters) (left .within)
-    (c .before .before .before .before .before .before .before .before .before .walk-groups .kept .1 .1 .0)
-    (c .before .before .fill .ensures) in
-    ran-done reading (a .word .now)
-    (c .before .before .before .before .before .before .before .before .before .before .before .before .before .before .before .before .before .before .before .if1 .left) (c .before .before .before .before .before .before .before .before .before .before .before .before .before .before .before .before .before .before .if2 .left) _ (c .before .before .before .before .before .before .before .before .before .before .before .before .before .before .before .before .first-other .ensures) (c .before .before .before .before .before .before .before .before .before .before .before .before .before .before .before .if3 .left) (left .stem) _ _ (left .is-done) (filled .1) (filled .0)
+    let left = stem-of (c .before .before .before .before) in
+    let kept = c .before .before .before .before .before .before .before .before .before .walk-groups .kept .1 .1 .0 in
+    let filled = placed-letters _ (left .stem) _ _ _ (left .letters) (left .within) kept (c .before .before .fill .ensures) in
+    ran-done _ _
+    (c .before .before .before .before .before .before .before .before .before .before .before .before .before .before .before .before .before .before .before .if1 .left)
+    (c .before .before .before .before .before .before .before .before .before .before .before .before .before .before .before .before .before .before .if2 .left) _
+    (c .before .before .before .before .before .before .before .before .before .before .before .before .before .before .before .before .first-other .ensures)
+    (c .before .before .before .before .before .before .before .before .before .before .before .before .before .before .before .if3 .left) (left .stem) _ _ (left .is-done) (filled .1) (filled .0)
 
 same-length-3 : tie.Need-same-length-3
 same-length-3 c = search needs
 
 returns-5 : tie.Need-returns-5
 returns-5 c =
-    let a = c .before .before .before .before .before .before .before .before .before .before .before .before .before .before .before .before .before .before .before .before .before .before .before .args in
-    let reading = walkWord (a .table .now) (groupsOf (a .sheet .now)) in
-    let out = outgrown-of (reading (a .word .now)) _ _
-    (c .before .before .before .before .before .before .before .before .before .walk-groups .ensures)
-    (c .before .before .before .before .before .enum-told .given .1) in
-    let back = word-back (a .word .now) _ _ _ _ _ refl (omega arith)
-    (c .before .before .before .before .before .before .before .before .before .before .before .before .copy-in .ensures) (c .before .before .before .before .before .before .before .before .before .walk-groups .kept .1 .1 .0) (c .before .before .copy-in2 .ensures) in
-    ran-longer reading (a .word .now)
-    (c .before .before .before .before .before .before .before .before .before .before .before .before .before .before .before .before .before .before .before .if1 .left) (c .before .before .before .before .before .before .before .before .before .before .before .before .before .before .before .before .before .before .if2 .left) _ (c .before .before .before .before .before .before .before .before .before .before .before .before .before .before .before .before .first-other .ensures) (c .before .before .before .before .before .before .before .before .before .before .before .before .before .before .before .if3 .left) _ out back
+    let word = c .before .before .before .before .before .before .before .before .before .before .before .before .before .before .before .before .before .before .before .before .before .before .before .args .word .now in
+    let out = outgrown-of _ _ _ (c .before .before .before .before .before .before .before .before .before .walk-groups .ensures) (c .before .before .before .before .before .enum-told .given .1) in
+    let kept = c .before .before .before .before .before .before .before .before .before .walk-groups .kept .1 .1 .0 in
+    let saved = c .before .before .before .before .before .before .before .before .before .before .before .before .copy-in .ensures in
+    let back = word-back word _ _ _ _ _ refl (omega arith) saved kept (c .before .before .copy-in2 .ensures) in
+    ran-longer _ _
+    (c .before .before .before .before .before .before .before .before .before .before .before .before .before .before .before .before .before .before .before .if1 .left)
+    (c .before .before .before .before .before .before .before .before .before .before .before .before .before .before .before .before .before .before .if2 .left) _
+    (c .before .before .before .before .before .before .before .before .before .before .before .before .before .before .before .before .first-other .ensures)
+    (c .before .before .before .before .before .before .before .before .before .before .before .before .before .before .before .if3 .left) _ out back
 
 pub word-run-spec : {M : Type 1} → statement M
 word-run-spec =
