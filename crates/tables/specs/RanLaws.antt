@@ -5,7 +5,8 @@ use mathlib.Core.Bool.{false, or-true}
 use mathlib.Core.List.{List, _++_, append-nil}
 use native.Mathlib.Omega.{arith}
 use lib.ListN.{length, take, drop, replicate, drop-of-length-le}
-use lib.Seq.{length-take-le, take-append-seam, take-length, paste}
+use lib.Seq.{length-take-le, take-append-seam, take-length}
+use Rattle.places.specs.Put.{putAt, put-fits}
 use borrow.Author.Tests.{eq-eqb, ne-eqb, lt-ltb, le-ltb}
 use Rattle.paper.specs.Groups.{Reading, done, outgrown}
 use Rattle.paper.specs.Words.{wrongLength, firstOther, placed, readingOutcome, wordOutcome}
@@ -78,9 +79,11 @@ placed-letters word stem after filled size letters within long there =
 
 -- the word as it came
 pub word-back : (word zeros saved after back : List ℕ) (size : ℕ) → size ≡ length word → length word ≤ length zeros
-    → saved ≡ paste zeros 0 word (length word)
-    → length after ≡ length word → back ≡ paste after 0 (take size saved) (length (take size saved)) → back ≡ word
+    → saved ≡ putAt zeros 0 word
+    → length after ≡ length word → back ≡ putAt after 0 (take size saved) → back ≡ word
 word-back word zeros saved after back size s long kept same-long there =
-    let whole : take size saved ≡ word = rw (s, kept, take-length word) (take-append-seam word (drop (0 + length word) zeros)) in
+    let put = put-fits zeros 0 word (omega arith) in
+    let whole : take size saved ≡ word = rw (s, kept, put, take-length word) (take-append-seam word (drop (0 + length word) zeros)) in
+    let put-back = put-fits after 0 word (omega arith) in
     let over = drop-of-length-le after {i = 0 + length word} (omega arith) in
-    there ∙ rw (whole, take-length word, over, append-nil)
+    there ∙ rw (whole, put-back, take-length word, over, append-nil)

@@ -7,7 +7,8 @@ use mathlib.Core.Option.{none, some}
 use native.Mathlib.Omega.{arith}
 use lib.Dec.{eqb, leb}
 use lib.ListN.{length, take, drop, length-append, length-drop}
-use lib.Seq.{length-take-le, take-take, take-all, paste, take-paste}
+use lib.Seq.{length-take-le, take-take}
+use Rattle.places.specs.Put.{putAt, put-behind}
 use borrow.Author.Tests.{le-leb, lt-leb, eq-eqb, ne-eqb}
 use Rattle.paper.specs.Letters.{inward}
 use Rattle.paper.specs.Groups.{replace, single-letter, Rule, Result, before, act, resultOf}
@@ -27,7 +28,7 @@ pub record Obeyed (result : Result) (sheet place : List ℕ) (size at a o s1 s2 
   pub inside : at + 8 + s1 + s2 ≤ length sheet
   pub single : (a ≡ 0 → ⊥) → Stepped result (length place) place (size - s1 - 1) (eqb o 1) true
   pub replaced : (after : List ℕ) → a ≡ 0 → s2 ≤ length place - (size - s1)
-      → after ≡ paste place (size - s1) (take s2 (drop (at + 8 + s1) sheet)) s2
+      → after ≡ putAt place (size - s1) (take s2 (drop (at + 8 + s1) sheet))
       → Stepped result (length place) after (size - s1 + s2) (eqb o 1) true
   pub outgrown : (opened : Bool) → a ≡ 0 → length place - (size - s1) < s2 → Stepped result (length place) place size opened false
 
@@ -104,15 +105,15 @@ module _ (table : List ℕ) (root number : ℕ) (place : List ℕ) (size : ℕ) 
     new-long : length (take part place ++ letters-new) ≡ part + s2
     new-long = omega (arith, length-append (take part place) letters-new, part-long, letters-long)
 
-    step-replace : (after : List ℕ) → a ≡ 0 → s2 ≤ length place - part → after ≡ paste place part letters-new s2
+    step-replace : (after : List ℕ) → a ≡ 0 → s2 ≤ length place - part → after ≡ putAt place part letters-new
         → Stepped result (length place) after (part + s2) (eqb o 1) true
     step-replace after e room stored =
-        let first = take-paste place part letters-new s2 (omega arith) (omega (arith, letters-long)) in
-        let all = take-all s2 letters-new (omega (arith, letters-long)) in
+        let size-is : part + s2 ≡ part + length letters-new = omega (arith, letters-long) in
+        let put = put-behind place part letters-new (omega (arith, letters-long)) in
         rw (given, replaced e)
         (record {
           fits-is = sym (le-leb (length (take part place ++ letters-new)) (length place) (omega (arith, new-long)));
-          letters = λ t. (rw stored (first ∙ rw all), omega arith, refl);
+          letters = λ t. (rw (stored, size-is) put, omega arith, refl);
         })
 
     step-outgrown : (opened : Bool) → a ≡ 0 → length place - part < s2 → Stepped result (length place) place size opened false

@@ -2,7 +2,6 @@
 ghost use mathlib.Core.Path.{_≡_};
 ghost use Prim.Native.Nat.{_+_, _-_, _<_, _≤_};
 ghost use lib.ListN.{length, take, drop};
-ghost use lib.Seq.{paste};
 ghost use Rattle.paper.specs.Groups.{same};
 ghost use Rattle.tables.specs.Answers.{groupsOf};
 ghost use Rattle.tables.specs.GoingLaws.{Accepted};
@@ -144,18 +143,6 @@ fn tried_at(
     nothing()
 }
 
-// Copies letters to a place of the word.
-pub(crate) fn copy_in(word: &mut [u8], at: usize, from: &[u8])
-    requires { ⌜ at + length (now from) ≤ length (now word) ⌝ }
-    ensures { λ r. ⌜ now (word .exit) ≡ paste (now (word .entry)) at (now (from .entry)) (length (now (from .entry))) ⌝ }
-{
-    let mut i = 0;
-    while i < from.len() {
-        word[at + i] = from[i];
-        i += 1;
-    }
-}
-
 // What a group leaves: the letters that stand first in the word's place, whether the next group is opened, and whether the
 // result fits the place.
 struct Step {
@@ -215,7 +202,7 @@ fn walk_group(
     }
     let start = place + 8 + ending;
     let end = start + added;
-    copy_in(word, part, &sheet[start..end]);
+    places::put(word, part, &sheet[start..end]);
     Step {
         size: part + added,
         opened,

@@ -5,8 +5,7 @@ use native.Mathlib.Omega.{arith}
 use mathlib.Core.Path.{_≡_}
 use mathlib.Core.List.{List, _++_}
 use lib.ListN.{length, take, drop}
-use lib.Seq.{take-paste, take-length}
-use Rattle.places.specs.Put.{putAt, put-fits}
+use Rattle.places.specs.Put.{putAt, put-behind}
 use Rattle.words.specs.Tables.{ruleAt, written}
 use Rattle.words.proofs.Columns.{replacement-row}
 use Rattle.words.proofs.replace.Statement.{statement}
@@ -19,8 +18,7 @@ follows :
     → after ≡ putAt word part letters
     → k ≡ part + length letters
     → take k after ≡ take part word ++ letters
-follows word after letters part k fits e n =
-    rw (e, put-fits word part letters fits, n, take-paste word part letters (length letters) (omega arith) (omega arith), take-length letters)
+follows word after letters part k fits e n = rw (e, n) (put-behind word part letters fits)
 
 shared-slice-read-wide : tie.Need-shared-slice-read-wide
 shared-slice-read-wide c =

@@ -95,34 +95,17 @@ add-start-2 c = let inside = obeyed-of (c .before .before .before .before .befor
 add-end : tie.Need-add-end
 add-end c = let inside = obeyed-of (c .before .before .before .before .before) .inside in omega arith
 
-sub-copy-in : tie.Need-sub-copy-in
-sub-copy-in c = search needs
+sub-put : tie.Need-sub-put
+sub-put c = search needs
 
-part-copy-in-start : tie.Need-part-copy-in-start
-part-copy-in-start c = search needs
+part-put-start : tie.Need-part-put-start
+part-put-start c = search needs
 
-part-copy-in-end : tie.Need-part-copy-in-end
-part-copy-in-end c = let inside = obeyed-of (c .before .before .before .before .before .before) .inside in omega arith
+part-put-end : tie.Need-part-put-end
+part-put-end c = let inside = obeyed-of (c .before .before .before .before .before .before) .inside in omega arith
 
--- the letters that are copied are as many as the rule's record says
-copied : (c : tie.Else2)
-    → (let sheet = c .before .before .before .before .before .before .before .before .before .args .sheet .now in
-    let rule = c .before .tried-at .result in
-    let start = rule .place + 8 + rule .ending in
-    length (take (start + rule .replacement - start) (drop start sheet)) ≡ rule .replacement)
-copied c =
-    let rule = c .before .tried-at .result in
-    let start = rule .place + 8 + rule .ending in
-    let sheet = c .before .before .before .before .before .before .before .before .before .args .sheet .now in
-    let inside = obeyed-of c .inside in
-    let size : start + rule .replacement - start ≡ rule .replacement = omega arith in
-    rw size (length-take-le (rule .replacement) (drop start sheet) (simp length-drop (omega arith)))
-
-copy-in-requires : tie.Need-copy-in-requires
-copy-in-requires c κs =
-    let within = c .before .before .before .before .before .before .before .before .before .before .before .before .before .before .before .before .pre .1 .1 .1 .1 .1 in
-    let long = copied (c .before .before .before .before .before .before .before) in
-    omega (arith, c .before .before .if4 .left, c .before .before .before .before .before .before .less .ensures)
+put-requires : tie.Need-put-requires
+put-requires c κs = search needs
 
 add-t24 : tie.Need-add-t24
 add-t24 c =
@@ -145,8 +128,7 @@ returns-5 c =
     let part = c .before .before .before .before .before .before .before .before .before .less .ensures in
     let size : start + rule .replacement - start ≡ rule .replacement = omega arith in
     let room = rw part at (c .before .before .before .before .before .if4 .left) in
-    let long = copied (c .before .before .before .before .before .before .before .before .before .before) in
-    let stored = rw (long, size, part) at (c .before .before .copy-in .ensures) in
+    let stored = rw (size, part) at (c .before .before .put .ensures) in
     rw part
     (obeyed-of (c .before .before .before .before .before .before .before .before .before .before) .replaced _
     (c .before .before .before .before .before .before .if3 .left) room stored)
@@ -175,10 +157,10 @@ walk-group-spec =
     add-start
     add-start-2
     add-end
-    sub-copy-in
-    part-copy-in-start
-    part-copy-in-end
-    copy-in-requires
+    sub-put
+    part-put-start
+    part-put-end
+    put-requires
     add-t24
     same-length-5
     returns-5)

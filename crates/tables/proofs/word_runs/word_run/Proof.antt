@@ -37,11 +37,11 @@ returns-3 : tie.Need-returns-3
 returns-3 c =
     ran-letter _ _ (c .before .before .before .before .if1 .left) (c .before .before .before .if2 .left) _ (c .before .first-other .ensures) (c .if3 .taken)
 
-slice-aggregate-copy-in : tie.Need-slice-aggregate-copy-in
-slice-aggregate-copy-in c = search needs
+slice-aggregate-put : tie.Need-slice-aggregate-put
+slice-aggregate-put c = search needs
 
-copy-in-requires : tie.Need-copy-in-requires
-copy-in-requires c κs = search needs
+put-requires : tie.Need-put-requires
+put-requires c κs = search needs
 
 walk-groups-requires : tie.Need-walk-groups-requires
 walk-groups-requires c κs = search needs
@@ -57,7 +57,7 @@ stem-of : (c : tie.After-known-told)
 stem-of c = left-of _ _ _ _ (c .before .before .before .before .before .walk-groups .ensures) (c .before .walked .given .1)
 
 fill-requires : tie.Need-fill-requires
-fill-requires c κs = stem-of (c .before) .within
+fill-requires c κs = search needs
 
 enum-told : tie.Need-enum-told
 enum-told c = search needs
@@ -65,14 +65,12 @@ enum-told c = search needs
 array-share-prefix-saved : tie.Need-array-share-prefix-saved
 array-share-prefix-saved c = search needs
 
-slice-aggregate-copy-in-2 : tie.Need-slice-aggregate-copy-in-2
-slice-aggregate-copy-in-2 c = sym (length-take-le (length
-    (c .before .before .before .before .before .before .before .before .before .before .before .before .before .before .before .before .before .before .before .before .args .word .now)) (c .before .before .before .before .before .before .before .before .before .copy-in .last .0) (omega (arith, c .before .before .before .before .before .before .before .before .before .copy-in .kept .0, c .before .before .before .before .before .before .before .before .before .before .before .before .before .before .before .if2 .left)))
+slice-aggregate-put-2 : tie.Need-slice-aggregate-put-2
+slice-aggregate-put-2 c = sym (length-take-le (length
+    (c .before .before .before .before .before .before .before .before .before .before .before .before .before .before .before .before .before .before .before .before .args .word .now)) (c .before .before .before .before .before .before .before .before .before .put .last .0) (omega (arith, c .before .before .before .before .before .before .before .before .before .put .kept .0, c .before .before .before .before .before .before .before .before .before .before .before .before .before .before .before .if2 .left)))
 
-copy-in-requires-2 : tie.Need-copy-in-requires-2
-copy-in-requires-2 c κs =
-    let long = slice-aggregate-copy-in-2 c in
-    omega (arith, c .before .before .before .before .before .before .walk-groups .kept .1 .1 .0)
+put-requires-2 : tie.Need-put-requires-2
+put-requires-2 c κs = search needs
 
 same-length-2 : tie.Need-same-length-2
 same-length-2 c = search needs
@@ -96,8 +94,8 @@ returns-5 c =
     let word = c .before .before .before .before .before .before .before .before .before .before .before .before .before .before .before .before .before .before .before .before .before .before .before .args .word .now in
     let out = outgrown-of _ _ _ (c .before .before .before .before .before .before .before .before .before .walk-groups .ensures) (c .before .before .before .before .before .enum-told .given .1) in
     let kept = c .before .before .before .before .before .before .before .before .before .walk-groups .kept .1 .1 .0 in
-    let saved = c .before .before .before .before .before .before .before .before .before .before .before .before .copy-in .ensures in
-    let back = word-back word _ _ _ _ _ refl (omega arith) saved kept (c .before .before .copy-in2 .ensures) in
+    let saved = c .before .before .before .before .before .before .before .before .before .before .before .before .put .ensures in
+    let back = word-back word _ _ _ _ _ refl (omega arith) saved kept (c .before .before .put2 .ensures) in
     ran-longer _ _
     (c .before .before .before .before .before .before .before .before .before .before .before .before .before .before .before .before .before .before .before .if1 .left)
     (c .before .before .before .before .before .before .before .before .before .before .before .before .before .before .before .before .before .before .if2 .left) _
@@ -113,15 +111,15 @@ word-run-spec =
     first-other-requires
     same-length
     returns-3
-    slice-aggregate-copy-in
-    copy-in-requires
+    slice-aggregate-put
+    put-requires
     walk-groups-requires
     enum-known-walked
     fill-requires
     enum-told
     array-share-prefix-saved
-    slice-aggregate-copy-in-2
-    copy-in-requires-2
+    slice-aggregate-put-2
+    put-requires-2
     same-length-2
     returns-4
     same-length-3
