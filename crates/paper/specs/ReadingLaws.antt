@@ -1,5 +1,5 @@
 -- Laws of how a group is read, over any rule list: which ending is chosen, and which rule is obeyed. Assumes nothing.
-use Prim.Native.Nat.{ℕ, _-_, _≤_, max}
+use Prim.Native.Nat.{ℕ, _-_, _≤_}
 use native.Mathlib.Omega.{arith}
 use mathlib.Core.Path.{_≡_, refl, ap, sym, subst, _∙_}
 use mathlib.Core.Bool.{Bool, true, false, cond, true≢false, _&&_, and-false}

@@ -8,7 +8,7 @@ use mathlib.Core.Bool.{true, false}
 use mathlib.Core.List.{List, [], _∷_, map}
 use lib.ListN.{length, take, drop, getD, drop-of-length-le, length-drop}
 use lib.Seq.{getD-drop, take-length}
-use Rattle.paper.specs.Groups.{Rule, endsWith, fitting, which, first, chosen, obeyed}
+use Rattle.paper.specs.Groups.{endsWith, fitting, which, first, chosen, obeyed}
 use Rattle.paper.specs.ReadingLaws.{obeys}
 use Rattle.paper.specs.LongerFirst.{longerFirst, first-fits, passed-by, longerFirst-rest}
 use Rattle.words.specs.Tables.{ruleAt, picked, AllBelow, EndsAt}

@@ -1,17 +1,16 @@
 -- `words::obeyed` meets its contract: only the rules whose ending has so many letters and ends the word are looked at, and the
 -- first of them whose condition holds is the first that is obeyed. Assumes nothing.
-use Prim.Native.Nat.{ℕ, _+_, _-_, _≤_, _<_}
+use Prim.Native.Nat.{ℕ, _-_, _≤_, _<_}
 use borrow.Author.Needs.{needs}
 use borrow.Author.Tests.{lt-ltb}
 use native.Mathlib.Omega.{arith}
 use mathlib.Core.Path.{_≡_, refl, sym, ap, _∙_}
-use mathlib.Core.Bool.{Bool, true, false}
+use mathlib.Core.Bool.{Bool}
 use mathlib.Core.List.{List, map}
-use mathlib.Core.Option.{some}
 use lib.ListN.{length, take, getD, drop-of-length-le}
 use lib.Seq.{length-take-le}
 use Rattle.paper.specs.Conditions.{holds}
-use Rattle.paper.specs.Groups.{first, endsWith}
+use Rattle.paper.specs.Groups.{first}
 use Rattle.paper.specs.GroupsLaws.{ending-short}
 use Rattle.paper.specs.ReadingLaws.{obeys, obeys-holds}
 use Rattle.words.specs.Tables.{ruleAt, picked, digit, conditionDigits, EndsAt}

@@ -2,7 +2,7 @@
 use Prim.Native.Nat.{_+_, _-_}
 use mathlib.Core.Path.{_≡_, sym}
 use native.Mathlib.Omega.{arith}
-use lib.ListN.{length, take, drop, length-drop}
+use lib.ListN.{take}
 use lib.Seq.{length-take-le}
 use Rattle.tables.specs.Walk.{walkGroup}
 use Rattle.tables.specs.TryLaws.{rulesOf, restAt, none-picked-as, some-picked-as}
