@@ -44,7 +44,7 @@ use denote.Triple.Table.{cited}
 use Rattle.sheets.specs.Answers.{recordIn}
 use Rattle.sheets.specs.declared.reader.Reader.{Reader}
 use Rattle.sheets.specs.declared.records.Record.{Record}
-use Rattle.sheets.proofs.Ensured.{Known, token, calls}
+use Rattle.sheets.proofs.Ensured.{Known, token, calls, Walk, leaves, meets}
 use Rattle.sheets.proofs.Readers.{
   Held,
   Parts,
@@ -58,9 +58,7 @@ use Rattle.sheets.proofs.Readers.{
   IsMade,
   IsNext,
   IsAt,
-  Sheet-walk,
-  sheet-leaves,
-  sheet-meets,
+  parts-fit,
 }
 use Rattle.sheets.proofs.reader.Reader as holder
 use Rattle.sheets.proofs.reader.Reader.Laws as readers
@@ -89,11 +87,12 @@ is-at κ reader r one is-made is-next =
 
 walk : {M : Type 1} (𝓤 : URA M) (H : Heap 𝓤) (A : Atoms 𝓤) (W : Given 𝓤 H A) (C : Calls 𝓤 H) (Λ : Loops 𝓤 H)
     → FmC 𝓤 H (W .laws) C → Triple 𝓤 (C #made) (Known of-sheet a-reader IsMade 𝓤 H A) → Triple 𝓤 (C #next) (Known of-reader a-record IsNext 𝓤 H A)
-    → (κ : Lft) (q : Share) (reader : Reader) → Sheet-walk a-record IsAt 𝓤 H A κ q reader C Λ code.function
-walk 𝓤 H A W C Λ fm known-made known-next κ q reader typed =
+    → (κ : Lft) (q : Share) (reader : Reader) → Walk of-sheet a-record IsAt 𝓤 H A κ q (fields reader) C Λ code.function
+walk 𝓤 H A W C Λ fm known-made known-next κ q reader are =
+    let fits = parts-fit 𝓤 H A W κ reader are in
     qed W (token κ q ∷ ‵ (Parts κ reader) ∷ []) ∵ enter ! C Λ code.function (slice (reader .sheet) ∷ vint w64 (reader .at) ∷ []) _ $
     alloc1 ! (λ result. alloc1 ! (λ first. alloc1 ! (λ second. alloc1 ! (λ made. alloc0 ! $ params1 ! $
-    pass1 ! (init ! 4 refl (tt, typed .0)) $ pass1 ! (init ! 2 refl (tt, typed .1 .0)) $ pass0 ! $
+    pass1 ! (init ! 4 refl (tt, fits .0)) $ pass1 ! (init ! 2 refl (tt, fits .1 .0)) $ pass0 ! $
     move ! (8 ∷ 9 ∷ []) $
     calls of-sheet a-reader IsMade 𝓤 H A κ q (fields reader) (field-values reader) ! fm known-made
     (and-then ! (load ! (from ! (stop !)) (look ! 5 refl)) (and-then ! (load ! (from ! (stop !)) (look ! 3 refl)) (no-more !))) (λ u r is-made.
@@ -108,12 +107,12 @@ walk 𝓤 H A W C Λ fm known-made known-next κ q reader typed =
     land ! (from ! (stop !)) (init ! 8 refl (EL.lawful drawn.the-type records.the-laws 𝓤 H A W tt .typed one _ fine′ .0)) $
     returns ! (look ! 8 refl) $ forget ! 2 refl $ forget ! 4 refl $ forget ! 6 refl $ forget ! 8 refl $
     move ! (8 ∷ 9 ∷ []) $ free1 ! $ move ! (6 ∷ 7 ∷ []) $ free1 ! $ move ! (4 ∷ 5 ∷ []) $ free1 ! $ move ! (2 ∷ 3 ∷ []) $ free1 ! $ free0 ! $
-    move ! (1 ∷ 0 ∷ []) $ by ! (sheet-leaves a-record IsAt 𝓤 H A κ q reader W one w (is-at κ reader r one is-made is-next))))))))))
+    move ! (1 ∷ 0 ∷ []) $ by ! (leaves of-sheet a-record IsAt 𝓤 H A κ q (fields reader) W one w (is-at κ reader r one is-made is-next))))))))))
 
 pub draw-spec : {M : Type 1} → stated.statement M
 unfolding code.routine
 draw-spec 𝓤 H 𝓜 𝓖 𝓡 =
-    sheet-meets a-record IsAt 𝓤 H 𝓜 𝓖 𝓡 code.env #draw code.function (code.unfolded 𝓤 H 𝓜 𝓡)
-    (λ fm. walk 𝓤 H (𝓖 .A) (givenOf 𝓤 H 𝓜 𝓖) _ _ fm
+    meets of-sheet a-record IsAt 𝓤 H 𝓜 𝓖 𝓡 code.env #draw code.function (code.unfolded 𝓤 H 𝓜 𝓡)
+    (λ fm κ q a. walk 𝓤 H (𝓖 .A) (givenOf 𝓤 H 𝓜 𝓖) _ _ fm
     (cited 𝓤 H (Known of-sheet a-reader IsMade 𝓤 H (𝓖 .A)) 𝓜 𝓡 code.env #made made-symbol.routine code.calls-sheets·reader·made (made-met.met 𝓤 H 𝓜 𝓖 𝓡))
-    (cited 𝓤 H (Known of-reader a-record IsNext 𝓤 H (𝓖 .A)) 𝓜 𝓡 code.env #next next-symbol.routine code.calls-sheets·reader·next (next-met.met 𝓤 H 𝓜 𝓖 𝓡)))
+    (cited 𝓤 H (Known of-reader a-record IsNext 𝓤 H (𝓖 .A)) 𝓜 𝓡 code.env #next next-symbol.routine code.calls-sheets·reader·next (next-met.met 𝓤 H 𝓜 𝓖 𝓡)) κ q (record { sheet = a .0; at = a .1 .0 }))

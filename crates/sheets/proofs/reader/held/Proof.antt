@@ -30,8 +30,8 @@ use types.Run.{
   free0,
 }
 use Rattle.sheets.specs.declared.reader.Reader.{Reader}
-use Rattle.sheets.proofs.Ensured.{Fact, token}
-use Rattle.sheets.proofs.Readers.{Whole, Parts, value, slice, apart, of-reader, Reader-walk, reader-leaves, reader-meets}
+use Rattle.sheets.proofs.Ensured.{Fact, token, Walk, leaves, meets}
+use Rattle.sheets.proofs.Readers.{Whole, Parts, value, slice, apart, of-reader, reader-fits}
 use Rattle.sheets.proofs.reader.held.Key.{name as #held}
 use Rattle.sheets.proofs.reader.held as held
 use Rattle.sheets.proofs.reader.held.Statement as stated
@@ -41,18 +41,19 @@ abbrev IsHeld : Fact of-reader (held.signature .result)
 IsHeld κs a sheet = sheet ≡ a .0 .sheet
 
 walk : {M : Type 1} (𝓤 : URA M) (H : Heap 𝓤) (A : Atoms 𝓤) → Given 𝓤 H A → (C : Calls 𝓤 H) (Λ : Loops 𝓤 H) (κ : Lft) (q : Share) (reader : Reader)
-    → Reader-walk (held.signature .result) IsHeld 𝓤 H A κ q reader C Λ code.function
-walk 𝓤 H A W C Λ κ q reader typed =
+    → Walk of-reader (held.signature .result) IsHeld 𝓤 H A κ q (reader, tt) C Λ code.function
+walk 𝓤 H A W C Λ κ q reader are =
+    let fits = reader-fits 𝓤 H A W κ reader (are .0) in
     qed W (token κ q ∷ ‵ (Whole κ reader) ∷ []) ∵
-    enter ! C Λ code.function (value reader ∷ []) _ $ alloc1 ! (λ result. alloc1 ! (λ taken. alloc0 ! $ params1 ! $ pass1 ! (init ! 0 refl (tt, typed)) $ pass0 ! $
-    assigns ! (of-opd ! (load ! (from ! (fld ! refl (stop !))) (look-in ! 0 (sub ! 0 refl (whole !))))) (from ! (stop !)) (init ! 2 refl (tt, typed .0)) $
+    enter ! C Λ code.function (value reader ∷ []) _ $ alloc1 ! (λ result. alloc1 ! (λ taken. alloc0 ! $ params1 ! $ pass1 ! (init ! 0 refl (tt, fits)) $ pass0 ! $
+    assigns ! (of-opd ! (load ! (from ! (fld ! refl (stop !))) (look-in ! 0 (sub ! 0 refl (whole !))))) (from ! (stop !)) (init ! 2 refl (tt, fits .0)) $
     returns ! (look ! 2 refl) $ forget ! 0 refl $ forget ! 2 refl $ move ! (2 ∷ 3 ∷ []) $ free1 ! $ free1 ! $ free0 ! $
     -- [the token; what the reader owns]
     move ! (1 ∷ []) $ use1 W (‵ (Parts κ reader)) (apart 𝓤 H A W κ reader) $ fsplit ! $ move ! (1 ∷ []) $ drop ! $ move ! (1 ∷ 0 ∷ []) $
-    by ! (reader-leaves (held.signature .result) IsHeld 𝓤 H A κ q reader W (reader .sheet) (slice (reader .sheet)) refl)))
+    by ! (leaves of-reader (held.signature .result) IsHeld 𝓤 H A κ q (reader, tt) W (reader .sheet) (slice (reader .sheet)) refl)))
 
 pub held-spec : {M : Type 1} → stated.statement M
 unfolding code.routine
 held-spec 𝓤 H 𝓜 𝓖 𝓡 =
-    reader-meets (held.signature .result) IsHeld 𝓤 H 𝓜 𝓖 𝓡 code.env #held code.function (code.unfolded 𝓤 H 𝓜 𝓡)
-    (λ fm. walk 𝓤 H (𝓖 .A) (givenOf 𝓤 H 𝓜 𝓖) _ _)
+    meets of-reader (held.signature .result) IsHeld 𝓤 H 𝓜 𝓖 𝓡 code.env #held code.function (code.unfolded 𝓤 H 𝓜 𝓡)
+    (λ fm κ q a. walk 𝓤 H (𝓖 .A) (givenOf 𝓤 H 𝓜 𝓖) _ _ κ q (a .0))
