@@ -5,7 +5,7 @@ use mathlib.Core.Bool.{Bool, true, false}
 use mathlib.Core.List.{List, [], _∷_}
 use native.Mathlib.Omega.{arith}
 use lib.ListN.{length}
-use Rattle.sheets.specs.Records.{bodyLength, kind, body, after, gate, rule, cut, faultyGroup, misplacedGroup, faultyRule, misplacedRule, faultyEnd, faultyAlone, misplaced, faulty}
+use Rattle.sheets.specs.Records.{bodyLength, kind, body, after, gate, rule, cut, faultyGroup, misplacedGroup, faultyRule, misplacedRule, faultyEnd, byKind, faultyAlone, misplaced, faulty}
 use Rattle.sheets.specs.Sheets.{faulty-at, holding, ruleThen, groupThen, readRest}
 use Rattle.sheets.specs.RecordLaws.{
   at-group,
@@ -26,37 +26,25 @@ module _ (groups rules : ℕ) (rest : List ℕ) where
   unfolding faulty
   fault-alone is = simp is
 
+  -- one that is not faulty by itself is faulty where it is misplaced
+  by-place : cut rest ≡ false → byKind rest (faultyGroup (body rest)) (faultyRule (body rest)) (faultyEnd rest) true ≡ false
+      → faulty groups rules rest ≡ misplaced groups rules rest
+  unfolding faulty faultyAlone
+  by-place whole sound = rw (whole, sound) refl
+
   pub group-fault : cut rest ≡ false → kind rest ≡ 1 → faultyGroup (body rest) ≡ false
       → faulty groups rules rest ≡ misplacedGroup groups (body rest)
-  unfolding faulty faultyAlone misplaced
-  group-fault whole is sound = rw (
-    whole,
-    at-group rest (faultyGroup (body rest)) (faultyRule (body rest))
-        (faultyEnd rest) true is,
-    at-group rest _ _ _ _ is,
-    sound,
-  ) refl
+  unfolding misplaced
+  group-fault whole is sound = by-place whole (at-group rest _ _ _ _ is ∙ sound) ∙ at-group rest _ _ _ _ is
 
   pub rule-fault : cut rest ≡ false → kind rest ≡ 2 → faultyRule (body rest) ≡ false
       → faulty groups rules rest ≡ misplacedRule groups rules
-  unfolding faulty faultyAlone misplaced
-  rule-fault whole is sound = rw (
-    whole,
-    at-rule rest (faultyGroup (body rest)) (faultyRule (body rest))
-        (faultyEnd rest) true is,
-    at-rule rest _ _ _ _ is,
-    sound,
-  ) refl
+  unfolding misplaced
+  rule-fault whole is sound = by-place whole (at-rule rest _ _ _ _ is ∙ sound) ∙ at-rule rest _ _ _ _ is
 
   end-fault : cut rest ≡ false → kind rest ≡ 3 → length rest ≡ 4 → faulty groups rules rest ≡ false
-  unfolding faulty faultyAlone misplaced faultyEnd
-  end-fault whole is last = rw (
-    whole,
-    at-end rest (faultyGroup (body rest)) (faultyRule (body rest))
-        (faultyEnd rest) true is,
-    at-end rest _ _ _ _ is,
-    last,
-  ) refl
+  unfolding misplaced faultyEnd
+  end-fault whole is last = by-place whole (at-end rest _ _ _ _ is ∙ rw last refl) ∙ at-end rest _ _ _ _ is
 
 -- ## One step of reading
 module _ (more groups rules place : ℕ) (rest : List ℕ) where
