@@ -96,6 +96,7 @@ of-reader = record {
   silent = λ κs a. refl;
 }
 
+-- a sheet and a place: a proof names the two by the reader of them
 abbrev pub of-sheet : Passed
 of-sheet = record {
   params = SliceRefOf (0 ∷ []) tt (plain (λ _. u8)) (λ _. tt) ∷ plain (λ _. usize) ∷ [];
