@@ -116,24 +116,25 @@ unfolding faulty faultyAlone cut
 faulty-empty groups rules [] none = refl
 faulty-empty groups rules (x ∷ rest) none = absurd (omega arith)
 
-module _ (more other groups rules place : ℕ) (rest : List ℕ) where
+module _ (more other groups rules place : ℕ) (rest : List ℕ)
+    (further : (g r p : ℕ) (l : List ℕ) → length l ≤ more → length l ≤ other → readRest more g r p l ≡ readRest other g r p l)
+    (a : length rest ≤ suc more) (b : length rest ≤ suc other) where
+  same-after : (g r : ℕ) → cut rest ≡ false
+      → readRest more g r (place + (4 + bodyLength rest)) (after rest) ≡ readRest other g r (place + (4 + bodyLength rest)) (after rest)
+  same-after g r whole = further g r (place + (4 + bodyLength rest)) (after rest) (shorter rest more whole a) (shorter rest other whole b)
+
   -- both sides take the same step
-  same-step :
-      ((g r p : ℕ) (l : List ℕ) → length l ≤ more → length l ≤ other → readRest more g r p l ≡ readRest other g r p l)
-      → length rest ≤ suc more → length rest ≤ suc other → Found groups rules rest
-      → readRest (suc more) groups rules place rest ≡ readRest (suc other) groups rules place rest
-  same-step further a b (found-fault is) = fault-step more groups rules place rest is ∙ sym (fault-step other groups rules place rest is)
-  same-step further a b (found-group whole is sound well) =
+  same-step : Found groups rules rest → readRest (suc more) groups rules place rest ≡ readRest (suc other) groups rules place rest
+  same-step (found-fault is) = fault-step more groups rules place rest is ∙ sym (fault-step other groups rules place rest is)
+  same-step (found-group whole is sound well) =
       group-step more groups rules place rest whole is sound well
-      ∙ (ap (groupThen (gate (body rest))) (further (suc groups) rules (place + (4 + bodyLength rest)) (after rest)
-      (shorter rest more whole a) (shorter rest other whole b))
+      ∙ (ap (groupThen (gate (body rest))) (same-after (suc groups) rules whole)
       ∙ sym (group-step other groups rules place rest whole is sound well))
-  same-step further a b (found-rule whole is sound well) =
+  same-step (found-rule whole is sound well) =
       rule-step more groups rules place rest whole is sound well
-      ∙ (ap (ruleThen (rule (body rest))) (further groups (suc rules) (place + (4 + bodyLength rest)) (after rest)
-      (shorter rest more whole a) (shorter rest other whole b))
+      ∙ (ap (ruleThen (rule (body rest))) (same-after groups (suc rules) whole)
       ∙ sym (rule-step other groups rules place rest whole is sound well))
-  same-step further a b (found-end whole is last) = end-step more groups rules place rest whole is last
+  same-step (found-end whole is last) = end-step more groups rules place rest whole is last
       ∙ sym (end-step other groups rules place rest whole is last)
 
 pub enough : (more other groups rules place : ℕ) (rest : List ℕ) → length rest ≤ more → length rest ≤ other
