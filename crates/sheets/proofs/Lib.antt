@@ -1,2 +1,4 @@
 -- What the proofs of several functions share.
+pub mod Ensured
 pub mod Readers
+pub mod Taken

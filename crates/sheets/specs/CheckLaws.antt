@@ -19,7 +19,7 @@ use Rattle.sheets.specs.Finished.{finished, after-group, after-rule, one
 use Rattle.sheets.specs.Lists.{empty}
 use Rattle.sheets.specs.RecordLaws.{GroupHere, RuleHere, EndHere}
 use Rattle.sheets.specs.RuleLaws.{sound, length-ending}
-use Rattle.sheets.specs.SheetLaws.{fault-step, group-step, rule-step, end-step, enough}
+use Rattle.sheets.specs.SheetLaws.{group-fault, rule-fault, fault-step, group-step, rule-step, end-step, enough}
 use Rattle.sheets.specs.ReadRecords.{rule-record}
 use Rattle.sheets.specs.PlaceLaws.{group-size, rule-size, ending-read, beyond, left}
 use Rattle.sheets.specs.WriteBack.{WrittenAs, not-read, is-read, rest-written}
@@ -69,6 +69,13 @@ module _ {sheet : List ℕ} {at groups rules nodes first count : ℕ} (state : S
   pub faulty-record : faulty groups rules rest ≡ true → Refused at ≡ checked sheet
   faulty-record is =
       sym (one-record ∙ ap (finished nodes (state .earlier)) (fault-step (length rest) groups rules at rest is))
+
+  -- a record that is not faulty by itself, out of its place
+  pub group-refused : {number : ℕ} → GroupHere rest number → misplacedGroup groups (body rest) ≡ true → Refused at ≡ checked sheet
+  group-refused here is = faulty-record (group-fault groups rules rest (here .whole) (here .is-group) (here .sound) ∙ is)
+
+  pub rule-refused : {s1 s2 : ℕ} → RuleHere rest s1 s2 → misplacedRule groups rules ≡ true → Refused at ≡ checked sheet
+  rule-refused here is = faulty-record (rule-fault groups rules rest (here .whole) (here .is-rule) (here .sound) ∙ is)
 
   pub last-record : EndHere rest → Accepted nodes ≡ checked sheet
   unfolding distinct tailsOf nodeCount

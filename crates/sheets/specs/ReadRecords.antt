@@ -28,13 +28,18 @@ use Rattle.sheets.specs.ByteLaws.{fitting, length-body, length-after, re
 use Rattle.sheets.specs.RuleLaws.{group-length, group-is, sound, length-replacement, rule-is}
 
 -- ## Its bytes
+-- of a record whose kind and body are known
+bytes-of : (rest : List ℕ) (k : ℕ) {b : List ℕ} → cut rest ≡ false → kind rest ≡ k → k ≤ 3 → length (body rest) ≤ 28 → body rest ≡ b
+    → rest ≡ recordOf k b ++ after rest
+bytes-of rest k whole is known short same =
+    let size = length-body rest whole in
+    record-is rest k whole is (omega arith) (omega arith) ∙ ap (λ (b : List ℕ). recordOf k b ++ after rest) same
+
 pub group-record : (rest : List ℕ) → cut rest ≡ false → kind rest ≡ 1 → faultyGroup (body rest) ≡ false
     → rest ≡ recordOf 1 (gateBody (gate (body rest))) ++ after rest
 group-record rest whole is sound-group =
     let size = group-length (body rest) sound-group in
-    let same = length-body rest whole in
-    record-is rest 1 whole is (omega arith) (omega arith)
-    ∙ ap (λ (b : List ℕ). recordOf 1 b ++ after rest) (group-is (body rest) sound-group)
+    bytes-of rest 1 whole is (omega arith) (omega arith) (group-is (body rest) sound-group)
 
 pub rule-size : (rest : List ℕ) → faultyRule rest ≡ false → length rest ≤ 28
 rule-size rest none =
@@ -48,10 +53,7 @@ rule-size rest none =
 pub rule-record : (rest : List ℕ) → cut rest ≡ false → kind rest ≡ 2 → faultyRule (body rest) ≡ false
     → rest ≡ recordOf 2 (ruleBody (rule (body rest))) ++ after rest
 rule-record rest whole is none =
-    let size = rule-size (body rest) none in
-    let same = length-body rest whole in
-    record-is rest 2 whole is (omega arith) (omega arith)
-    ∙ ap (λ (b : List ℕ). recordOf 2 b ++ after rest) (rule-is (body rest) none)
+    bytes-of rest 2 whole is (omega arith) (rule-size (body rest) none) (rule-is (body rest) none)
 
 pub end-record : (rest : List ℕ) → cut rest ≡ false → kind rest ≡ 3 → length rest ≡ 4 → rest ≡ recordOf 3 []
 unfolding recordOf two
@@ -61,8 +63,7 @@ end-record rest whole-record is last =
     let beyond = length-after rest in
     let none : body rest ≡ [] = empty (body rest) (omega arith) in
     let no-more : after rest ≡ [] = empty (after rest) (omega arith) in
-    record-is rest 3 whole-record is (omega arith) (omega arith)
-    ∙ (ap (λ (b : List ℕ). recordOf 3 b ++ after rest) none ∙ ap (λ (l : List ℕ). recordOf 3 [] ++ l) no-more)
+    bytes-of rest 3 whole-record is (omega arith) (omega arith) none ∙ ap (λ (l : List ℕ). recordOf 3 [] ++ l) no-more
 
 -- ## Its place
 pub few-groups : (groups : ℕ) (rest : List ℕ) → misplacedGroup groups rest ≡ false → groups < 16

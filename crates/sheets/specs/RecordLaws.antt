@@ -1,14 +1,14 @@
 -- What a record of a sheet is by cases: faulty by itself, a group, a rule or the end. Assumes nothing.
 use Prim.Native.Nat.{ℕ}
-use mathlib.Core.Path.{_≡_, refl}
+use mathlib.Core.Path.{_≡_, refl, subst}
 use mathlib.Core.Bool.{Bool, true, false}
 use mathlib.Core.List.{List}
-use native.Mathlib.Omega.{arith}
 use lib.Dec.{eqb}
 use lib.ListN.{length}
 use borrow.Author.Tests.{eqb-true}
 use Rattle.sheets.specs.Records.{kind, body, gateNumber, condition, actionNumber, opensNumber, ending, replacement, cut, faultyGroup, faultyRule, faultyEnd, byKind, faultyAlone}
 use Rattle.sheets.specs.Answers.{groupRecord, ruleRecord, endRecord, recordIn}
+use Rattle.sheets.specs.declared.records.Record.{Record}
 use Rattle.sheets.specs.declared.records.Record.the-variants.{Group, Rule, End, Faulty}
 
 -- what the answer for the kind is, where the kind is known
@@ -95,42 +95,31 @@ pub record EndHere (rest : List ℕ) : Type 0 where
   pub is-end : kind rest ≡ 3
   pub last : length rest ≡ 4
 
-another : {P : Type 0} → _≡_ {A = ℕ} 0 1 → P
-another differs = absurd (omega arith)
+-- by the answer
+abbrev Here : List ℕ → Record → Type 0
+Here rest (Group number) = GroupHere rest number
+Here rest (Rule c a o s1 s2) = RuleHere rest s1 s2
+Here rest End = EndHere rest
+Here rest Faulty = faultyAlone rest ≡ true
+
+here-by : (rest : List ℕ) → Alone rest → Here rest (recordIn rest)
+here-by rest (a-fault fault answer) = rw answer fault
+here-by rest (a-group whole is sound answer) = rw answer (record { whole = whole; is-group = is; sound = sound; gate-is = refl })
+here-by rest (a-rule whole is sound answer) =
+    rw answer (record { whole = whole; is-rule = is; sound = sound; ending-is = refl; replacement-is = refl })
+here-by rest (an-end whole is last answer) = rw answer (record { whole = whole; is-end = is; last = last })
+
+here : (rest : List ℕ) (answer : Record) → recordIn rest ≡ answer → Here rest answer
+here rest answer is = subst (Here rest) is (here-by rest (alone rest))
 
 pub group-here : (rest : List ℕ) (number : ℕ) → recordIn rest ≡ Group number → GroupHere rest number
-group-here rest number is = by (alone rest)
-  where
-    by : Alone rest → GroupHere rest number
-    by (a-fault fault answer) = another (cc)
-    by (a-group whole kind-is sound answer) = record { whole = whole; is-group = kind-is; sound = sound; gate-is = cc }
-    by (a-rule whole kind-is sound answer) = another (cc)
-    by (an-end whole kind-is last answer) = another (cc)
+group-here rest number = here rest (Group number)
 
 pub rule-here : (rest : List ℕ) (c a o s1 s2 : ℕ) → recordIn rest ≡ Rule c a o s1 s2 → RuleHere rest s1 s2
-rule-here rest c a o s1 s2 is = by (alone rest)
-  where
-    by : Alone rest → RuleHere rest s1 s2
-    by (a-fault fault answer) = another (cc)
-    by (a-group whole kind-is sound answer) = another (cc)
-    by (a-rule whole kind-is sound answer) =
-        record { whole = whole; is-rule = kind-is; sound = sound; ending-is = cc; replacement-is = cc }
-    by (an-end whole kind-is last answer) = another (cc)
+rule-here rest c a o s1 s2 = here rest (Rule c a o s1 s2)
 
 pub end-here : (rest : List ℕ) → recordIn rest ≡ End → EndHere rest
-end-here rest is = by (alone rest)
-  where
-    by : Alone rest → EndHere rest
-    by (a-fault fault answer) = another (cc)
-    by (a-group whole kind-is sound answer) = another (cc)
-    by (a-rule whole kind-is sound answer) = another (cc)
-    by (an-end whole kind-is last answer) = record { whole = whole; is-end = kind-is; last = last }
+end-here rest = here rest End
 
 pub fault-here : (rest : List ℕ) → recordIn rest ≡ Faulty → faultyAlone rest ≡ true
-fault-here rest is = by (alone rest)
-  where
-    by : Alone rest → faultyAlone rest ≡ true
-    by (a-fault fault answer) = fault
-    by (a-group whole kind-is sound answer) = another (cc)
-    by (a-rule whole kind-is sound answer) = another (cc)
-    by (an-end whole kind-is last answer) = another (cc)
+fault-here rest = here rest Faulty

@@ -5,7 +5,7 @@ use mathlib.Core.Bool.{Bool, true, false}
 use mathlib.Core.List.{List, [], _∷_}
 use native.Mathlib.Omega.{arith}
 use lib.ListN.{length}
-use Rattle.sheets.specs.Records.{bodyLength, kind, body, after, gate, rule, cut, faultyGroup, misplacedGroup, faultyRule, misplacedRule, faultyEnd, faultyAlone, misplaced, faulty}
+use Rattle.sheets.specs.Records.{bodyLength, kind, body, after, gate, rule, cut, faultyGroup, misplacedGroup, faultyRule, misplacedRule, faultyEnd, byKind, faultyAlone, misplaced, faulty}
 use Rattle.sheets.specs.Sheets.{faulty-at, holding, ruleThen, groupThen, readRest}
 use Rattle.sheets.specs.RecordLaws.{
   at-group,
@@ -26,37 +26,25 @@ module _ (groups rules : ℕ) (rest : List ℕ) where
   unfolding faulty
   fault-alone is = simp is
 
+  -- one that is not faulty by itself is faulty where it is misplaced
+  by-place : cut rest ≡ false → byKind rest (faultyGroup (body rest)) (faultyRule (body rest)) (faultyEnd rest) true ≡ false
+      → faulty groups rules rest ≡ misplaced groups rules rest
+  unfolding faulty faultyAlone
+  by-place whole sound = rw (whole, sound) refl
+
   pub group-fault : cut rest ≡ false → kind rest ≡ 1 → faultyGroup (body rest) ≡ false
       → faulty groups rules rest ≡ misplacedGroup groups (body rest)
-  unfolding faulty faultyAlone misplaced
-  group-fault whole is sound = rw (
-    whole,
-    at-group rest (faultyGroup (body rest)) (faultyRule (body rest))
-        (faultyEnd rest) true is,
-    at-group rest _ _ _ _ is,
-    sound,
-  ) refl
+  unfolding misplaced
+  group-fault whole is sound = by-place whole (at-group rest _ _ _ _ is ∙ sound) ∙ at-group rest _ _ _ _ is
 
   pub rule-fault : cut rest ≡ false → kind rest ≡ 2 → faultyRule (body rest) ≡ false
       → faulty groups rules rest ≡ misplacedRule groups rules
-  unfolding faulty faultyAlone misplaced
-  rule-fault whole is sound = rw (
-    whole,
-    at-rule rest (faultyGroup (body rest)) (faultyRule (body rest))
-        (faultyEnd rest) true is,
-    at-rule rest _ _ _ _ is,
-    sound,
-  ) refl
+  unfolding misplaced
+  rule-fault whole is sound = by-place whole (at-rule rest _ _ _ _ is ∙ sound) ∙ at-rule rest _ _ _ _ is
 
   end-fault : cut rest ≡ false → kind rest ≡ 3 → length rest ≡ 4 → faulty groups rules rest ≡ false
-  unfolding faulty faultyAlone misplaced faultyEnd
-  end-fault whole is last = rw (
-    whole,
-    at-end rest (faultyGroup (body rest)) (faultyRule (body rest))
-        (faultyEnd rest) true is,
-    at-end rest _ _ _ _ is,
-    last,
-  ) refl
+  unfolding misplaced faultyEnd
+  end-fault whole is last = by-place whole (at-end rest _ _ _ _ is ∙ rw last refl) ∙ at-end rest _ _ _ _ is
 
 -- ## One step of reading
 module _ (more groups rules place : ℕ) (rest : List ℕ) where
@@ -128,24 +116,25 @@ unfolding faulty faultyAlone cut
 faulty-empty groups rules [] none = refl
 faulty-empty groups rules (x ∷ rest) none = absurd (omega arith)
 
-module _ (more other groups rules place : ℕ) (rest : List ℕ) where
+module _ (more other groups rules place : ℕ) (rest : List ℕ)
+    (further : (g r p : ℕ) (l : List ℕ) → length l ≤ more → length l ≤ other → readRest more g r p l ≡ readRest other g r p l)
+    (a : length rest ≤ suc more) (b : length rest ≤ suc other) where
+  same-after : (g r : ℕ) → cut rest ≡ false
+      → readRest more g r (place + (4 + bodyLength rest)) (after rest) ≡ readRest other g r (place + (4 + bodyLength rest)) (after rest)
+  same-after g r whole = further g r (place + (4 + bodyLength rest)) (after rest) (shorter rest more whole a) (shorter rest other whole b)
+
   -- both sides take the same step
-  same-step :
-      ((g r p : ℕ) (l : List ℕ) → length l ≤ more → length l ≤ other → readRest more g r p l ≡ readRest other g r p l)
-      → length rest ≤ suc more → length rest ≤ suc other → Found groups rules rest
-      → readRest (suc more) groups rules place rest ≡ readRest (suc other) groups rules place rest
-  same-step further a b (found-fault is) = fault-step more groups rules place rest is ∙ sym (fault-step other groups rules place rest is)
-  same-step further a b (found-group whole is sound well) =
+  same-step : Found groups rules rest → readRest (suc more) groups rules place rest ≡ readRest (suc other) groups rules place rest
+  same-step (found-fault is) = fault-step more groups rules place rest is ∙ sym (fault-step other groups rules place rest is)
+  same-step (found-group whole is sound well) =
       group-step more groups rules place rest whole is sound well
-      ∙ (ap (groupThen (gate (body rest))) (further (suc groups) rules (place + (4 + bodyLength rest)) (after rest)
-      (shorter rest more whole a) (shorter rest other whole b))
+      ∙ (ap (groupThen (gate (body rest))) (same-after (suc groups) rules whole)
       ∙ sym (group-step other groups rules place rest whole is sound well))
-  same-step further a b (found-rule whole is sound well) =
+  same-step (found-rule whole is sound well) =
       rule-step more groups rules place rest whole is sound well
-      ∙ (ap (ruleThen (rule (body rest))) (further groups (suc rules) (place + (4 + bodyLength rest)) (after rest)
-      (shorter rest more whole a) (shorter rest other whole b))
+      ∙ (ap (ruleThen (rule (body rest))) (same-after groups (suc rules) whole)
       ∙ sym (rule-step other groups rules place rest whole is sound well))
-  same-step further a b (found-end whole is last) = end-step more groups rules place rest whole is last
+  same-step (found-end whole is last) = end-step more groups rules place rest whole is last
       ∙ sym (end-step other groups rules place rest whole is last)
 
 pub enough : (more other groups rules place : ℕ) (rest : List ℕ) → length rest ≤ more → length rest ≤ other

@@ -10,13 +10,15 @@ use lib.Dec.{eqb, leb}
 use lib.ListN.{length, drop, length-drop}
 use Rattle.sheets.specs.Records.{body, gateNumber, misplacedGroup, misplacedRule}
 use Rattle.sheets.specs.RecordLaws.{GroupHere, RuleHere, group-here, rule-here, end-here, fault-here}
-use Rattle.sheets.specs.SheetLaws.{fault-alone, group-fault, rule-fault, faulty-empty}
+use Rattle.sheets.specs.SheetLaws.{fault-alone, faulty-empty}
 use Rattle.sheets.specs.ReadRecords.{few-groups, few-rules}
 use Rattle.sheets.specs.PlaceLaws.{group-inside, rule-inside}
 use Rattle.sheets.specs.CheckLaws.{
   State,
   starts,
   faulty-record,
+  group-refused,
+  rule-refused,
   last-record,
   group-next,
   ending-short,
@@ -71,11 +73,8 @@ group-test c = c .misplaced-group .ensures ∙ group-judged _ _ _ (group-of c .g
 
 returns : tie.Need-returns Inv-loop μ-loop
 returns c =
-    let turn = c .before .before .before .before .before .before .before .loop in
-    let here = group-of (c .before) in
-    faulty-record (turn .inv .5)
-    (group-fault (turn .groups) (turn .rules) (rest (c .before .before .before .before .before)) (here .whole) (here .is-group) (here .sound)
-    ∙ (sym (group-test (c .before)) ∙ c .if1 .taken))
+    group-refused (c .before .before .before .before .before .before .before .loop .inv .5) (group-of (c .before))
+    (sym (group-test (c .before)) ∙ c .if1 .taken)
 
 add-groups : tie.Need-add-groups Inv-loop μ-loop
 add-groups c = omega (arith, c .before .before .before .before .before .before .before .loop .inv .1)
@@ -131,11 +130,8 @@ rule-test c = c .misplaced-rule .ensures
 
 returns-2 : tie.Need-returns-2 Inv-loop μ-loop
 returns-2 c =
-    let turn = c .before .before .before .before .before .before .before .loop in
-    let here = rule-of (c .before) in
-    faulty-record (turn .inv .5)
-    (rule-fault (turn .groups) (turn .rules) (rest (c .before .before .before .before .before)) (here .whole) (here .is-rule) (here .sound)
-    ∙ (sym (rule-test (c .before)) ∙ c .if2 .taken))
+    rule-refused (c .before .before .before .before .before .before .before .loop .inv .5) (rule-of (c .before))
+    (sym (rule-test (c .before)) ∙ c .if2 .taken)
 
 longest-shared-requires : tie.Need-longest-shared-requires Inv-loop μ-loop
 longest-shared-requires c κs = tt

@@ -15,16 +15,10 @@ no-longer : (one other : List ℕ) (least : ℕ) → Stop one other least → le
 no-longer one other least stop = omega (arith, shared-below one other least stop)
 
 returns : tie.Need-returns
-returns c =
-    let args = c .before .before .before .args in
-    let over = c .if1 .taken in
-    no-longer (args .one .now) (args .other .now) (args .least) (λ first second equal. omega arith)
+returns c = let over = c .if1 .taken in no-longer _ _ _ (λ first second equal. omega arith)
 
 returns-2 : tie.Need-returns-2
-returns-2 c =
-    let args = c .before .before .before .before .args in
-    let over = c .if2 .taken in
-    no-longer (args .one .now) (args .other .now) (args .least) (λ first second equal. omega arith)
+returns-2 c = let over = c .if2 .taken in no-longer _ _ _ (λ first second equal. omega arith)
 
 sub-if3 : tie.Need-sub-if3
 sub-if3 c = search needs
@@ -45,9 +39,7 @@ shared-slice-read-if3-2 : tie.Need-shared-slice-read-if3-2
 shared-slice-read-if3-2 c = search needs
 
 returns-3 : tie.Need-returns-3
-returns-3 c =
-    let args = c .before .before .before .before .before .before .before .args in
-    no-longer (args .one .now) (args .other .now) (args .least) (λ first second equal. c .if3 .taken equal)
+returns-3 c = no-longer _ _ _ (λ first second. c .if3 .taken)
 
 shared-tail-requires : tie.Need-shared-tail-requires
 shared-tail-requires c κs = search needs

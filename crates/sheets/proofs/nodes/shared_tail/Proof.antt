@@ -6,7 +6,9 @@ use mathlib.Core.List.{List, _∷_}
 use native.Mathlib.Omega.{arith}
 use lib.ListN.{length, getD, drop}
 use lib.Seq.{drop-cons, drop-length}
-use Rattle.sheets.specs.SharedTails.{Equal, shared-is}
+use Rattle.sheets.specs.Nodes.{tails}
+use Rattle.sheets.specs.LookBack.{shared}
+use Rattle.sheets.specs.SharedTails.{Equal, Stop, shared-is}
 use Rattle.sheets.proofs.nodes.shared_tail.Statement.{statement}
 use Rattle.sheets.proofs.nodes.shared_tail.Tie as tie
 
@@ -36,15 +38,15 @@ Inv-loop one other k₀ k = (k ≤ length one) × (k ≤ length other) × Equal 
 abbrev μ-loop : tie.MeasureT-loop
 μ-loop one other k₀ k = length one - k
 
+-- where no further letter is equal, the loop is at the answer
+at-the-answer : (one other : List ℕ) (k : ℕ) → (k ≤ length one) × (k ≤ length other) × Equal one other k → Stop one other k → k ≡ shared one (tails other)
+at-the-answer one other k so-far stop = sym (shared-is one other k (so-far .0) (so-far .2) stop)
+
 loop-holds : tie.Need-loop-holds Inv-loop μ-loop
 loop-holds c = (omega arith, omega arith, none-equal (c .args .one .now) (c .args .other .now))
 
 returns : tie.Need-returns Inv-loop μ-loop
-returns c =
-    let args = c .before .before .before .args in
-    let turn = c .before .before .loop in
-    let over = c .if1 .taken in
-    sym (shared-is (args .one .now) (args .other .now) (turn .k) (turn .inv .0) (turn .inv .2) (λ first second equal. omega arith))
+returns c = let over = c .if1 .taken in at-the-answer _ _ _ (c .before .before .loop .inv) (λ first second equal. omega arith)
 
 sub-if2 : tie.Need-sub-if2 Inv-loop μ-loop
 sub-if2 c = omega arith
@@ -65,10 +67,7 @@ shared-slice-read-if2-2 : tie.Need-shared-slice-read-if2-2 Inv-loop μ-loop
 shared-slice-read-if2-2 c = omega arith
 
 returns-2 : tie.Need-returns-2 Inv-loop μ-loop
-returns-2 c =
-    let args = c .before .before .before .before .before .before .args in
-    let turn = c .before .before .before .before .before .loop in
-    sym (shared-is (args .one .now) (args .other .now) (turn .k) (turn .inv .0) (turn .inv .2) (λ first second equal. c .if2 .taken equal))
+returns-2 c = at-the-answer _ _ _ (c .before .before .before .before .before .loop .inv) (λ first second. c .if2 .taken)
 
 add-k : tie.Need-add-k Inv-loop μ-loop
 add-k c = omega arith
@@ -86,11 +85,7 @@ loop-again c =
     )
 
 returns-3 : tie.Need-returns-3 Inv-loop μ-loop
-returns-3 c =
-    let args = c .before .before .args in
-    let turn = c .before .loop in
-    let over = c .loop-test .left in
-    sym (shared-is (args .one .now) (args .other .now) (turn .k) (turn .inv .0) (turn .inv .2) (λ first second equal. omega arith))
+returns-3 c = let over = c .loop-test .left in at-the-answer _ _ _ (c .before .loop .inv) (λ first second equal. omega arith)
 
 pub shared-tail-spec : {M : Type 1} → statement M
 shared-tail-spec =

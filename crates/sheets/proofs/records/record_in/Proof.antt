@@ -1,7 +1,8 @@
 -- `sheets::records::record_in` meets its contract: at each return the tests that led there say which case holds.
 -- Assumes nothing.
 use Prim.Native.Nat.{ℕ, _+_, _-_, _≤_, _<_}
-use mathlib.Core.Path.{_≡_, _∙_}
+use mathlib.Core.Path.{_≡_, refl, sym, _∙_}
+use mathlib.Core.Bool.{false}
 use mathlib.Core.List.{List}
 use native.Mathlib.Omega.{arith}
 use borrow.Author.Needs.{needs}
@@ -10,6 +11,7 @@ use lib.ListN.{length, take, drop}
 use Rattle.sheets.specs.declared.records.Record.the-variants.{End, Faulty}
 use Rattle.sheets.specs.Records.{number, bodyLength, kind, body, cut, byKind, faultyEnd}
 use Rattle.sheets.specs.Answers.{groupRecord, ruleRecord, endRecord, recordIn}
+use Rattle.sheets.specs.RecordLaws.{at-group, at-rule, at-end}
 use Rattle.sheets.proofs.records.record_in.Statement.{statement}
 use Rattle.sheets.proofs.records.record_in.Tie as tie
 
@@ -21,55 +23,38 @@ no-body : (rest : List ℕ) (size : ℕ) → size ≡ bodyLength rest → 4 ≤ 
 unfolding recordIn cut
 no-body rest size is long short = simp (le-ltb (length rest) 4 long, ← is, lt-ltb (length rest - 4) size short)
 
--- a record that is not cut, by its kind
-module _ (rest : List ℕ) (size number : ℕ) (size-is : size ≡ bodyLength rest) (kind-is : number ≡ kind rest)
-    (long : 4 ≤ length rest) (whole : size ≤ length rest - 4) where
+-- what the code has read of a record that is not cut
+record Read (rest : List ℕ) (size number : ℕ) : Type 0 where
+  size-is : size ≡ bodyLength rest
+  kind-is : number ≡ kind rest
+  whole : cut rest ≡ false
+
+not-cut : (rest : List ℕ) (size : ℕ) → size ≡ bodyLength rest → 4 ≤ length rest → size ≤ length rest - 4 → cut rest ≡ false
+unfolding cut
+not-cut rest size is long fits = simp (le-ltb (length rest) 4 long, ← is, le-ltb (length rest - 4) size fits)
+
+-- such a record by its kind
+module _ (rest : List ℕ) (size number : ℕ) (is : Read rest size number) where
   body-is : take (4 + size - 4) (drop 4 rest) ≡ body rest
   unfolding body
-  body-is = let e : 4 + size - 4 ≡ size = omega arith in rw (e, size-is)
+  body-is = let e : 4 + size - 4 ≡ size = omega arith in rw (e, is .size-is)
 
   of-group : number ≡ 1 → groupRecord (take (4 + size - 4) (drop 4 rest)) ≡ recordIn rest
-  unfolding recordIn cut byKind
-  of-group one = simp (le-ltb (length rest) 4 long, ← size-is, le-ltb (length rest - 4) size whole, ← kind-is, eq-eqb number 1 one, body-is)
+  unfolding recordIn
+  of-group one = rw (body-is, is .whole, at-group rest _ _ _ _ (sym (is .kind-is) ∙ one)) refl
 
-  of-rule : (number ≡ 1 → ⊥) → number ≡ 2 → ruleRecord (take (4 + size - 4) (drop 4 rest)) ≡ recordIn rest
-  unfolding recordIn cut byKind
-  of-rule not-one two = simp (
-    le-ltb (length rest) 4 long,
-    ← size-is,
-    le-ltb
-        (length rest - 4) size whole,
-    ← kind-is,
-    ne-eqb number 1 not-one,
-    eq-eqb number 2 two,
-    body-is,
-  )
+  of-rule : number ≡ 2 → ruleRecord (take (4 + size - 4) (drop 4 rest)) ≡ recordIn rest
+  unfolding recordIn
+  of-rule two = rw (body-is, is .whole, at-rule rest _ _ _ _ (sym (is .kind-is) ∙ two)) refl
+
+  of-end : number ≡ 3 → endRecord rest ≡ recordIn rest
+  unfolding recordIn
+  of-end three = rw (is .whole, at-end rest _ _ _ _ (sym (is .kind-is) ∙ three)) refl
 
   of-another-kind : (number ≡ 1 → ⊥) → (number ≡ 2 → ⊥) → (number ≡ 3 → ⊥) → Faulty ≡ recordIn rest
-  unfolding recordIn cut byKind
-  of-another-kind not-one not-two not-three = simp (
-    le-ltb (length rest) 4 long,
-    ← size-is,
-    le-ltb
-        (length rest - 4) size whole,
-    ← kind-is,
-    ne-eqb number 1 not-one,
-    ne-eqb number 2 not-two,
-    ne-eqb number 3 not-three,
-  )
-
-  of-end : (number ≡ 1 → ⊥) → (number ≡ 2 → ⊥) → number ≡ 3 → endRecord rest ≡ recordIn rest
-  unfolding recordIn cut byKind
-  of-end not-one not-two three = simp (
-    le-ltb (length rest) 4 long,
-    ← size-is,
-    le-ltb
-        (length rest - 4) size whole,
-    ← kind-is,
-    ne-eqb number 1 not-one,
-    ne-eqb number 2 not-two,
-    eq-eqb number 3 three,
-  )
+  unfolding recordIn byKind
+  of-another-kind not-one not-two not-three =
+      simp (is .whole, ← is .kind-is, ne-eqb number 1 not-one, ne-eqb number 2 not-two, ne-eqb number 3 not-three)
 
 more-follows : (rest : List ℕ) → (length rest ≡ 4 → ⊥) → Faulty ≡ endRecord rest
 unfolding endRecord faultyEnd
@@ -123,52 +108,36 @@ part-body-end c = search needs
 group-in-requires : tie.Need-group-in-requires
 group-in-requires c κs = search needs
 
-returns-3 : tie.Need-returns-3
+-- what is known once the record is not cut
+read : (c : tie.Else2) → Read (c .before .before .before .before .before .before .before .before .before .args .rest .now)
+    (c .before .before .before .before .pair .result) (c .before .pair2 .result)
 unfolding bodyLength kind number
-returns-3 c =
-    let whole = c .before .before .before in
-    c .group-in .ensures
-    ∙ of-group _ _ _ (whole .before .before .before .before .pair .ensures) (whole .before .pair2 .ensures)
-    (whole .before .before .before .before .before .before .before .if1 .left) (whole .if2 .left)
-    (c .before .if3 .taken)
+read c =
+    let size-is = c .before .before .before .before .pair .ensures in
+    record {
+      size-is = size-is;
+      kind-is = c .before .pair2 .ensures;
+      whole = not-cut _ _ size-is (c .before .before .before .before .before .before .before .if1 .left) (c .if2 .left);
+    }
+
+returns-3 : tie.Need-returns-3
+returns-3 c = c .group-in .ensures ∙ of-group _ _ _ (read (c .before .before .before)) (c .before .if3 .taken)
 
 rule-in-requires : tie.Need-rule-in-requires
 rule-in-requires c κs = search needs
 
 returns-4 : tie.Need-returns-4
-unfolding bodyLength kind number
-returns-4 c =
-    let whole = c .before .before .before .before in
-    c .rule-in .ensures
-    ∙ of-rule _ _ _ (whole .before .before .before .before .pair .ensures) (whole .before .pair2 .ensures)
-    (whole .before .before .before .before .before .before .before .if1 .left) (whole .if2 .left)
-    (c .before .before .if3 .left) (c .before .if4 .taken)
+returns-4 c = c .rule-in .ensures ∙ of-rule _ _ _ (read (c .before .before .before .before)) (c .before .if4 .taken)
 
 returns-5 : tie.Need-returns-5
-unfolding bodyLength kind number
 returns-5 c =
-    let whole = c .before .before .before .before in
-    of-another-kind _ _ _ (whole .before .before .before .before .pair .ensures) (whole .before .pair2 .ensures)
-    (whole .before .before .before .before .before .before .before .if1 .left) (whole .if2 .left)
-    (c .before .before .if3 .left) (c .before .if4 .left) (c .if5 .taken)
+    of-another-kind _ _ _ (read (c .before .before .before .before)) (c .before .before .if3 .left) (c .before .if4 .left) (c .if5 .taken)
 
 returns-6 : tie.Need-returns-6
-unfolding bodyLength kind number
-returns-6 c =
-    let whole = c .before .before .before .before .before in
-    more-follows _ (c .if6 .taken)
-    ∙ of-end _ _ _ (whole .before .before .before .before .pair .ensures) (whole .before .pair2 .ensures)
-    (whole .before .before .before .before .before .before .before .if1 .left) (whole .if2 .left)
-    (c .before .before .before .if3 .left) (c .before .before .if4 .left) (c .before .if5 .left)
+returns-6 c = more-follows _ (c .if6 .taken) ∙ of-end _ _ _ (read (c .before .before .before .before .before)) (c .before .if5 .left)
 
 returns-7 : tie.Need-returns-7
-unfolding bodyLength kind number
-returns-7 c =
-    let whole = c .before .before .before .before .before in
-    nothing-follows _ (c .if6 .left)
-    ∙ of-end _ _ _ (whole .before .before .before .before .pair .ensures) (whole .before .pair2 .ensures)
-    (whole .before .before .before .before .before .before .before .if1 .left) (whole .if2 .left)
-    (c .before .before .before .if3 .left) (c .before .before .if4 .left) (c .before .if5 .left)
+returns-7 c = nothing-follows _ (c .if6 .left) ∙ of-end _ _ _ (read (c .before .before .before .before .before)) (c .before .if5 .left)
 
 pub record-in-spec : {M : Type 1} → statement M
 record-in-spec =

@@ -111,9 +111,12 @@ add-middle c = omega (arith, c .wide .ensures, c .before .shared-slice-known5 .g
 above-requires : tie.Need-above-requires
 above-requires c κs = search needs
 
+-- the body, from the test of the numbers on
+abbrev tested : tie.After-above → List ℕ
+tested c = c .before .before .before .before .before .before .before .before .args .body .now
+
 -- what the test of the numbers says
-numbers : (c : tie.After-above) → c .above .result ≡ faultyNumbers
-    (c .before .before .before .before .before .before .before .before .args .body .now)
+numbers : (c : tie.After-above) → c .above .result ≡ faultyNumbers (tested c)
 numbers c = c .above .ensures ∙ numbers-judged _ _ (c .before .before .before .before .before .before .if1 .left) (c .before .wide .ensures)
 
 fits : (body : List ℕ) (n : ℕ) → judged body n ≡ false → 4 + n ≤ length body
@@ -133,16 +136,21 @@ sub-s1 c = search needs
 part-s1-start : tie.Need-part-s1-start
 part-s1-start c = search needs
 
+-- where the numbers are not faulty, S1 is within the body
+s1-fits : (c : tie.Else2) → 4 + c .before .before .wide .result ≤ length (tested (c .before))
+s1-fits c = fits (tested (c .before)) _ (sym (c .before .above .ensures) ∙ c .if2 .left)
+
+numbers-sound : (c : tie.Else2) → faultyNumbers (tested (c .before)) ≡ false
+numbers-sound c = sym (numbers (c .before)) ∙ c .if2 .left
+
 part-s1-end : tie.Need-part-s1-end
-part-s1-end c = fits (c .before .before .before .before .before .before .before .before .before .args .body .now) _ (sym
-    (c .before .above .ensures) ∙ c .if2 .left)
+part-s1-end c = s1-fits c
 
 sub-s2 : tie.Need-sub-s2
-sub-s2 c = fits (c .before .before .before .before .before .before .before .before .before .before .args .body .now) _
-    (sym (c .before .before .above .ensures) ∙ c .before .if2 .left)
+sub-s2 c = s1-fits (c .before)
 
 part-s2-start : tie.Need-part-s2-start
-part-s2-start c = fits (c .before .before .before .before .before .before .before .before .before .before .args .body .now) _ (sym (c .before .before .above .ensures) ∙ c .before .if2 .left)
+part-s2-start c = s1-fits (c .before)
 
 part-s2-end : tie.Need-part-s2-end
 part-s2-end c = search needs
@@ -150,36 +158,31 @@ part-s2-end c = search needs
 faulty-letters-requires : tie.Need-faulty-letters-requires
 faulty-letters-requires c κs = search needs
 
-letters-test : (c : tie.After-faulty-letters) → c .faulty-letters .result
-    ≡ faultyLetters (c .before .before .before .before .before .before .before .before .before .before .before .before .args .body .now)
+letters-test : (c : tie.After-faulty-letters) → c .faulty-letters .result ≡ faultyLetters (tested (c .before .before .before .before))
 letters-test c = c .faulty-letters .ensures ∙ letters-judged _ _ (c .before .before .before .before .before .wide .ensures)
 
+letters-sound : (c : tie.Else3) → faultyLetters (tested (c .before .before .before .before .before)) ≡ false
+letters-sound c = sym (letters-test (c .before)) ∙ c .if3 .left
+
 returns-3 : tie.Need-returns-3
-returns-3 c =
-    by-letters _ (sym (numbers (c .before .before .before .before .before)) ∙ c .before .before .before .before .if2 .left)
-    (sym (letters-test (c .before)) ∙ c .if3 .taken)
+returns-3 c = by-letters _ (numbers-sound (c .before .before .before .before)) (sym (letters-test (c .before)) ∙ c .if3 .taken)
 
 faulty-action-requires : tie.Need-faulty-action-requires
 faulty-action-requires c κs = search needs
 
-action-test : (c : tie.After-faulty-action) → c .faulty-action .result
-    ≡ faultyAction (c .before .before .before .before .before .before .before .before .before .before .before .before .before .before .args .body .now)
+action-test : (c : tie.After-faulty-action) → c .faulty-action .result ≡ faultyAction (tested (c .before .before .before .before .before .before))
 action-test c = c .faulty-action .ensures ∙ action-judged _ _ (c .before .before .before .before .before .before .before .wide .ensures)
 
 returns-4 : tie.Need-returns-4
 returns-4 c =
     let past = c .before .before in
-    by-action _ (sym (numbers (past .before .before .before .before .before)) ∙ past .before .before .before .before .if2 .left)
-    (sym (letters-test (past .before)) ∙ past .if3 .left)
-    (sym (action-test (c .before)) ∙ c .if4 .taken)
+    by-action _ (numbers-sound (past .before .before .before .before)) (letters-sound past) (sym (action-test (c .before)) ∙ c .if4 .taken)
 
 returns-5 : tie.Need-returns-5
 returns-5 c =
     let past = c .before .before in
     read _ _ (past .before .before .before .before .before .before .wide .ensures)
-    (sym (numbers (past .before .before .before .before .before)) ∙ past .before .before .before .before .if2 .left)
-    (sym (letters-test (past .before)) ∙ past .if3 .left)
-    (sym (action-test (c .before)) ∙ c .if4 .left)
+    (numbers-sound (past .before .before .before .before)) (letters-sound past) (sym (action-test (c .before)) ∙ c .if4 .left)
 
 pub rule-in-spec : {M : Type 1} → statement M
 rule-in-spec =
