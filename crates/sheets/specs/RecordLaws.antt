@@ -3,11 +3,11 @@ use Prim.Native.Nat.{ℕ}
 use mathlib.Core.Path.{_≡_, refl}
 use mathlib.Core.Bool.{Bool, true, false}
 use mathlib.Core.List.{List}
-use native.Mathlib.Omega.{arith}
 use lib.Dec.{eqb}
 use lib.ListN.{length}
 use borrow.Author.Tests.{eqb-true}
 use Rattle.sheets.specs.Records.{kind, body, gateNumber, condition, actionNumber, opensNumber, ending, replacement, cut, faultyGroup, faultyRule, faultyEnd, byKind, faultyAlone}
+use Rattle.sheets.specs.Apart.{apart}
 use Rattle.sheets.specs.Answers.{groupRecord, ruleRecord, endRecord, recordIn}
 use Rattle.sheets.specs.declared.records.Record.the-variants.{Group, Rule, End, Faulty}
 
@@ -95,35 +95,32 @@ pub record EndHere (rest : List ℕ) : Type 0 where
   pub is-end : kind rest ≡ 3
   pub last : length rest ≡ 4
 
-another : {P : Type 0} → _≡_ {A = ℕ} 0 1 → P
-another differs = absurd (omega arith)
-
 pub group-here : (rest : List ℕ) (number : ℕ) → recordIn rest ≡ Group number → GroupHere rest number
 group-here rest number is = by (alone rest)
   where
     by : Alone rest → GroupHere rest number
-    by (a-fault fault answer) = another (cc)
+    by (a-fault fault answer) = apart (cc)
     by (a-group whole kind-is sound answer) = record { whole = whole; is-group = kind-is; sound = sound; gate-is = cc }
-    by (a-rule whole kind-is sound answer) = another (cc)
-    by (an-end whole kind-is last answer) = another (cc)
+    by (a-rule whole kind-is sound answer) = apart (cc)
+    by (an-end whole kind-is last answer) = apart (cc)
 
 pub rule-here : (rest : List ℕ) (c a o s1 s2 : ℕ) → recordIn rest ≡ Rule c a o s1 s2 → RuleHere rest s1 s2
 rule-here rest c a o s1 s2 is = by (alone rest)
   where
     by : Alone rest → RuleHere rest s1 s2
-    by (a-fault fault answer) = another (cc)
-    by (a-group whole kind-is sound answer) = another (cc)
+    by (a-fault fault answer) = apart (cc)
+    by (a-group whole kind-is sound answer) = apart (cc)
     by (a-rule whole kind-is sound answer) =
         record { whole = whole; is-rule = kind-is; sound = sound; ending-is = cc; replacement-is = cc }
-    by (an-end whole kind-is last answer) = another (cc)
+    by (an-end whole kind-is last answer) = apart (cc)
 
 pub end-here : (rest : List ℕ) → recordIn rest ≡ End → EndHere rest
 end-here rest is = by (alone rest)
   where
     by : Alone rest → EndHere rest
-    by (a-fault fault answer) = another (cc)
-    by (a-group whole kind-is sound answer) = another (cc)
-    by (a-rule whole kind-is sound answer) = another (cc)
+    by (a-fault fault answer) = apart (cc)
+    by (a-group whole kind-is sound answer) = apart (cc)
+    by (a-rule whole kind-is sound answer) = apart (cc)
     by (an-end whole kind-is last answer) = record { whole = whole; is-end = kind-is; last = last }
 
 pub fault-here : (rest : List ℕ) → recordIn rest ≡ Faulty → faultyAlone rest ≡ true
@@ -131,6 +128,6 @@ fault-here rest is = by (alone rest)
   where
     by : Alone rest → faultyAlone rest ≡ true
     by (a-fault fault answer) = fault
-    by (a-group whole kind-is sound answer) = another (cc)
-    by (a-rule whole kind-is sound answer) = another (cc)
-    by (an-end whole kind-is last answer) = another (cc)
+    by (a-group whole kind-is sound answer) = apart (cc)
+    by (a-rule whole kind-is sound answer) = apart (cc)
+    by (an-end whole kind-is last answer) = apart (cc)

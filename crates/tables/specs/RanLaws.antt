@@ -9,6 +9,7 @@ use lib.Seq.{length-take-le, take-append-seam, take-length, paste}
 use borrow.Author.Tests.{eq-eqb, ne-eqb, lt-ltb, le-ltb}
 use Rattle.paper.specs.Groups.{Reading, done, outgrown}
 use Rattle.paper.specs.Words.{wrongLength, firstOther, placed, readingOutcome, wordOutcome}
+use Rattle.sheets.specs.Apart.{apart}
 use Rattle.tables.specs.declared.Ran.the-variants.{Done, Length, Letter, Longer}
 use Rattle.tables.specs.declared.runs.Walked.{Walked}
 use Rattle.tables.specs.declared.runs.Walked.the-variants.{Left, Outgrown}
@@ -59,10 +60,10 @@ left-of (done stem) (Left other) size after is e =
     record { stem = stem; is-done = refl; letters = rw same-size at (is .0); within = rw same-size at (is .1) }
 left-of (done stem) Outgrown size after is e = absurd is
 left-of outgrown (Left other) size after is e = absurd is
-left-of outgrown Outgrown size after is e = let z : _≡_ {A = ℕ} 0 1 = cc in absurd (omega arith)
+left-of outgrown Outgrown size after is e = apart (cc)
 
 pub outgrown-of : (reading : Reading) (walked : Walked) (after : List ℕ) → WalkedAs reading walked after → walked ≡ Outgrown → reading ≡ outgrown
-outgrown-of (done stem) (Left other) after is e = let z : _≡_ {A = ℕ} 0 1 = cc in absurd (omega arith)
+outgrown-of (done stem) (Left other) after is e = apart (cc)
 outgrown-of (done stem) Outgrown after is e = absurd is
 outgrown-of outgrown (Left other) after is e = absurd is
 outgrown-of outgrown Outgrown after is e = refl
