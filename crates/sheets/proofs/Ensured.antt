@@ -117,8 +117,8 @@ module _ (p : Passed) (result : Slot 1) where
           → ent 𝓤 (⋆ 𝓤 H A (token κ q ∷ ‵ (result .row (κ, tt) .own r (v ∷ [])) ∷ [])) (Known A .post (called written) v)
       leaves W r v is =
           qed W (token κ q ∷ ‵ (result .row (κ, tt) .own r (v ∷ [])) ∷ []) ∵ updating ! $ now ! $
-          show ! (λ (r′ : Res (Signed .signature) (κ, tt)). sep 𝓤 (Back 𝓤 H A (Signed .signature) (called written .0) v r′) (ensured 𝓤 H A Signed clauses
-          (κ, tt) a tt r′)) r $ join ! $ frame ! $
+          show ! (λ (given : Res (Signed .signature) (κ, tt)). sep 𝓤 (Back 𝓤 H A (Signed .signature) (called written .0) v given) (ensured 𝓤 H A Signed clauses
+          (κ, tt) a tt given)) r $ join ! $ frame ! $
           show ! (λ (ws : Lasts Signed (κ, tt) a). sep 𝓤 (sem 𝓤 H A (lasts Signed (κ, tt) a ws)) (fact 𝓤 (φ (κ, tt) a r))) (p .last (κ, tt) a) $
           says ! is $ use0 W (‵ (lasts Signed (κ, tt) a (p .last (κ, tt) a))) (rw (p .silent (κ, tt) a) (had 𝓤 H A (p .params))) $ done !
 

@@ -6,6 +6,7 @@ pub mod Bytes
 pub mod Answers
 pub mod Tests
 pub mod Lists
+pub mod Apart
 pub mod RecordLaws
 pub mod ByteLaws
 pub mod RuleLaws

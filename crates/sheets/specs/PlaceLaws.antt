@@ -22,7 +22,15 @@ group-size {rest} here = sym (length-body rest (here .whole)) ∙ group-length (
 pub rule-size : {rest : List ℕ} {s1 s2 : ℕ} → RuleHere rest s1 s2 → bodyLength rest ≡ 4 + (s1 + s2)
 rule-size {rest} here =
     let is = sound (body rest) (here .sound) in
-    omega (arith, length-body rest (here .whole), length-ending (body rest) is, length-replacement (body rest), here .ending-is, here .replacement-is, is .within)
+    omega (
+      arith,
+      length-body rest (here .whole),
+      length-ending (body rest) is,
+      length-replacement (body rest),
+      here .ending-is,
+      here .replacement-is,
+      is .within,
+    )
 
 pub ending-read : {rest : List ℕ} {s1 s2 : ℕ} → RuleHere rest s1 s2 → endingIn rest ≡ rule (body rest) .ending
 ending-read {rest} here =

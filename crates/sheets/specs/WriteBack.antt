@@ -7,6 +7,7 @@ use native.Mathlib.Omega.{arith}
 use lib.ListN.{length}
 use borrow.Author.Tests.{le-leb}
 use Rattle.paper.specs.Groups.{Rule, Group}
+use Rattle.sheets.specs.Apart.{apart}
 use Rattle.sheets.specs.Records.{
   bodyLength,
   kind,
@@ -177,7 +178,7 @@ list-bytes list groups sheet w = w .bytes ∙ ap (λ (l : List Rule). written l 
 
 all-written : {found : Rest} (sheet : List ℕ) (groups : List Group) → WrittenAs 0 0 sheet found → whole found ≡ accepted groups
     → (sheet ≡ sheetOf groups) × (bounded groups ≡ true)
-all-written sheet groups (not-read place) is = let z : _≡_ {A = ℕ} 0 1 = cc in absurd (omega arith)
+all-written sheet groups (not-read place) is = apart (cc)
 all-written sheet groups (is-read list found w) is =
     let same : found ≡ groups = cc in
     rw (← same) (list-bytes list found sheet w, list-bounded list found sheet w)

@@ -103,9 +103,6 @@ unfolding chosen fitting
 chosen-whole k rules word e =
     rw (which-which, exact) (which-cong _ _ (λ rule. test-ext _ _ (there rule) (back rule)) rules)
   where
-    fits : Rule → Bool
-    fits rule = endsWith word (rule .ending)
-
     exact : longest (which (λ rule. endsWith word (rule .ending)) rules) ≡ length word
     exact =
         let most = longest-most (λ rule. endsWith word (rule .ending)) (length word) (λ rule. endsWith-length word (rule .ending)) rules in

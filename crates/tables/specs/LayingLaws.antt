@@ -104,13 +104,11 @@ module _ (root : ℕ) (others rules : List Node) (parent : Node) (letter : ℕ) 
       (record { laid = standing .laid; counted = standing .counted; fits = standing .fits; sound = standing .sound; there = e; reached = refl })
 
   -- the child is added
+  abbrev hung-by : ℕ → Laying
+  hung-by link = record { table = hung (now .count) link letter (now .table); count = suc (now .count); at = now .count }
+
   pub grow-added : present child-node old-nodes ≡ false → 4 * now .count + 4 ≤ length (now .table)
-      → grow letter now ≡ record {
-        table = hung (now .count) (endOf (take (4 * now .count) (now .table))
-            (now .at)) letter (now .table);
-        count = suc (now .count);
-        at = now .count;
-      }
+      → grow letter now ≡ hung-by (endOf (take (4 * now .count) (now .table)) (now .at))
   unfolding grow
   grow-added e room = rw (missing, e, le-leb (4 * now .count + 4) (length (now .table)) room)
 
@@ -128,12 +126,7 @@ module _ (root : ℕ) (others rules : List Node) (parent : Node) (letter : ℕ) 
 
   standing-hung : (link : ℕ) → link ≡ endOf (take (4 * now .count) (now .table)) (now .at)
       → present child-node old-nodes ≡ false → 4 * now .count + 4 ≤ length (now .table)
-      → Standing root (others ++ child-node ∷ []) rules child-node (record {
-        table = hung (now .count) link letter
-            (now .table);
-        count = suc (now .count);
-        at = now .count;
-      })
+      → Standing root (others ++ child-node ∷ []) rules child-node (hung-by link)
   standing-hung link found e room =
       let changed = hangs link found in
       let row = new-row old-nodes rules parent letter (standing .sound) (standing .there) e in

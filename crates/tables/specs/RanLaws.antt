@@ -10,11 +10,18 @@ use Rattle.places.specs.Put.{putAt, put-fits}
 use borrow.Author.Tests.{eq-eqb, ne-eqb, lt-ltb, le-ltb}
 use Rattle.paper.specs.Groups.{Reading, done, outgrown}
 use Rattle.paper.specs.Words.{wrongLength, firstOther, placed, readingOutcome, wordOutcome}
+use Rattle.sheets.specs.Apart.{apart}
 use Rattle.tables.specs.declared.Ran.the-variants.{Done, Length, Letter, Longer}
 use Rattle.tables.specs.declared.runs.Walked.{Walked}
 use Rattle.tables.specs.declared.runs.Walked.the-variants.{Left, Outgrown}
 use Rattle.tables.specs.WalkAnswers.{WalkedAs}
 use Rattle.tables.specs.RanAnswers.{RanAs}
+
+-- a word that is read: of the right length, and of letters only
+pub record Taken (word : List ℕ) : Type 0 where
+  pub some : length word ≡ 0 → ⊥
+  pub short : length word ≤ 64
+  pub letters : length word ≤ firstOther word
 
 module _ (reading : List ℕ → Reading) (word : List ℕ) where
   pub ran-empty : length word ≡ 0 → RanAs (wordOutcome reading word) Length word
@@ -25,26 +32,29 @@ module _ (reading : List ℕ → Reading) (word : List ℕ) where
   unfolding wordOutcome wrongLength
   ran-long h = rw (lt-ltb 64 (length word) h, or-true) (record { number-is = refl; value-is = refl; place-is = refl })
 
-  module _ (some : length word ≡ 0 → ⊥) (short : length word ≤ 64) where
-    right-length : wrongLength word ≡ false
-    unfolding wrongLength
-    right-length = rw (ne-eqb (length word) 0 some, le-ltb 64 (length word) short)
+  right-length : (length word ≡ 0 → ⊥) → length word ≤ 64 → wrongLength word ≡ false
+  unfolding wrongLength
+  right-length some short = rw (ne-eqb (length word) 0 some, le-ltb 64 (length word) short)
 
-    pub ran-letter : (other : ℕ) → other ≡ firstOther word → other < length word → RanAs (wordOutcome reading word) Letter word
-    unfolding wordOutcome
-    ran-letter other is h = rw (right-length, ← is, lt-ltb other (length word) h) (record { number-is = refl; value-is = refl; place-is = refl })
+  pub ran-letter : (length word ≡ 0 → ⊥) → length word ≤ 64 → (other : ℕ) → other ≡ firstOther word → other < length word
+      → RanAs (wordOutcome reading word) Letter word
+  unfolding wordOutcome
+  ran-letter some short other is h =
+      rw (right-length some short, ← is, lt-ltb other (length word) h) (record { number-is = refl; value-is = refl; place-is = refl })
 
-    module _ (other : ℕ) (is : other ≡ firstOther word) (all : length word ≤ other) where
-      pub ran-longer : (after : List ℕ) → reading word ≡ outgrown → after ≡ word → RanAs (wordOutcome reading word) Longer after
-      unfolding wordOutcome readingOutcome
-      ran-longer after e same-word = rw (right-length, ← is, le-ltb other (length word) all, e, same-word)
-          (record { number-is = refl; value-is = refl; place-is = refl })
+  module _ (taken : Taken word) where
+    pub ran-longer : (after : List ℕ) → reading word ≡ outgrown → after ≡ word → RanAs (wordOutcome reading word) Longer after
+    unfolding wordOutcome readingOutcome
+    ran-longer after e same-word =
+        rw (right-length (taken .some) (taken .short), le-ltb (firstOther word) (length word) (taken .letters), e, same-word)
+        (record { number-is = refl; value-is = refl; place-is = refl })
 
-      pub ran-done : (stem after : List ℕ) (size : ℕ) → reading word ≡ done stem → size ≡ length stem → after ≡ placed word stem
-          → RanAs (wordOutcome reading word) (Done size) after
-      unfolding wordOutcome readingOutcome
-      ran-done stem after size e long there =
-          rw (right-length, ← is, le-ltb other (length word) all, e) (record { number-is = refl; value-is = long; place-is = there })
+    pub ran-done : (stem after : List ℕ) (size : ℕ) → reading word ≡ done stem → size ≡ length stem → after ≡ placed word stem
+        → RanAs (wordOutcome reading word) (Done size) after
+    unfolding wordOutcome readingOutcome
+    ran-done stem after size e long there =
+        rw (right-length (taken .some) (taken .short), le-ltb (firstOther word) (length word) (taken .letters), e)
+        (record { number-is = refl; value-is = long; place-is = there })
 
 -- what the walk handed back says of the reading
 pub record Stem (reading : Reading) (size : ℕ) (after : List ℕ) : Type 0 where
@@ -60,10 +70,10 @@ left-of (done stem) (Left other) size after is e =
     record { stem = stem; is-done = refl; letters = rw same-size at (is .0); within = rw same-size at (is .1) }
 left-of (done stem) Outgrown size after is e = absurd is
 left-of outgrown (Left other) size after is e = absurd is
-left-of outgrown Outgrown size after is e = let z : _≡_ {A = ℕ} 0 1 = cc in absurd (omega arith)
+left-of outgrown Outgrown size after is e = apart (cc)
 
 pub outgrown-of : (reading : Reading) (walked : Walked) (after : List ℕ) → WalkedAs reading walked after → walked ≡ Outgrown → reading ≡ outgrown
-outgrown-of (done stem) (Left other) after is e = let z : _≡_ {A = ℕ} 0 1 = cc in absurd (omega arith)
+outgrown-of (done stem) (Left other) after is e = apart (cc)
 outgrown-of (done stem) Outgrown after is e = absurd is
 outgrown-of outgrown (Left other) after is e = absurd is
 outgrown-of outgrown Outgrown after is e = refl

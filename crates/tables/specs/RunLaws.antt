@@ -10,6 +10,7 @@ use lib.Seq.{take-at, take-all}
 use borrow.Author.Tests.{ltb-true}
 use Rattle.paper.specs.Groups.{same}
 use Rattle.paper.specs.Words.{wordOutcome}
+use Rattle.sheets.specs.Apart.{apart}
 use Rattle.sheets.specs.Sheets.{Sheet, refused, accepted, readSheet}
 use Rattle.sheets.specs.Nodes.{nodeCount}
 use Rattle.tables.specs.Layout.{tableOf}
@@ -32,24 +33,24 @@ unfolding translationOf
 refused-by (refused other) own place e = cc
 refused-by (accepted groups) own place e =
     by-test (ltb (length own) (4 * nodeCount groups))
-    (λ p. let given : Refused place ≡ Short = rw p at e in let z : _≡_ {A = ℕ} 0 1 = cc in absurd (omega arith))
-    (λ p. let given : Refused place ≡ Nodes (nodeCount groups) = rw p at e in let z : _≡_ {A = ℕ} 0 1 = cc in absurd (omega arith))
+    (λ p. let given : Refused place ≡ Short = rw p at e in apart (cc))
+    (λ p. let given : Refused place ≡ Nodes (nodeCount groups) = rw p at e in apart (cc))
 
 short-by : (found : Sheet) (own : List ℕ) → Short ≡ translationOf found own .answer
     → (found ≡ accepted (groupsIn found)) × (length own < 4 * nodeCount (groupsIn found))
 unfolding translationOf groupsIn
-short-by (refused other) own e = let z : _≡_ {A = ℕ} 0 1 = cc in absurd (omega arith)
+short-by (refused other) own e = apart (cc)
 short-by (accepted groups) own e =
     by-test (ltb (length own) (4 * nodeCount groups)) (λ p. (refl, ltb-true _ _ p))
-    (λ p. let given : Short ≡ Nodes (nodeCount groups) = rw p at e in let z : _≡_ {A = ℕ} 0 1 = cc in absurd (omega arith))
+    (λ p. let given : Short ≡ Nodes (nodeCount groups) = rw p at e in apart (cc))
 
 nodes-by : (found : Sheet) (own : List ℕ) (nodes : ℕ) → Nodes nodes ≡ translationOf found own .answer
     → (found ≡ accepted (groupsIn found)) × (nodes ≡ nodeCount (groupsIn found)) × (translationOf found own .table ≡ laidOut (groupsIn found) own)
 unfolding translationOf groupsIn
-nodes-by (refused other) own nodes e = let z : _≡_ {A = ℕ} 0 1 = cc in absurd (omega arith)
+nodes-by (refused other) own nodes e = apart (cc)
 nodes-by (accepted groups) own nodes e =
     by-test (ltb (length own) (4 * nodeCount groups))
-    (λ p. let given : Nodes nodes ≡ Short = rw p at e in let z : _≡_ {A = ℕ} 0 1 = cc in absurd (omega arith))
+    (λ p. let given : Nodes nodes ≡ Short = rw p at e in apart (cc))
     (λ p. let given : Nodes nodes ≡ Nodes (nodeCount groups) = rw p at e in (refl, cc, rw p))
 
 module _ (sheet own table word : List ℕ) where

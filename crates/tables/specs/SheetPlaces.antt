@@ -10,6 +10,7 @@ use borrow.Author.Tests.{ltb-true, ltb-false}
 use lib.ListN.{length, take, drop, getD, length-drop}
 use lib.Seq.{drop-drop}
 use Rattle.paper.specs.Groups.{Rule, Gate, always, if-opened, Group}
+use Rattle.sheets.specs.Apart.{apart}
 use Rattle.sheets.specs.Records.{bodyLength, body, after, gate, rule, ending, faulty}
 use Rattle.sheets.specs.Sheets.{Rest, faulty-at, holding, ruleThen, groupThen, readRest, accepted, whole, readSheet}
 use Rattle.sheets.specs.Lists.{empty}
@@ -32,7 +33,7 @@ pub record Holding (sheet : List ℕ) (at groups rules : ℕ) (list : List Rule)
 
 from-start : {found : Rest} (sheet : List ℕ) (groups : List Group) → WrittenAs 0 0 sheet found
     → whole found ≡ accepted groups → found ≡ holding [] groups
-from-start sheet groups (not-read place) e = let z : _≡_ {A = ℕ} 0 1 = cc in absurd (omega arith)
+from-start sheet groups (not-read place) e = apart (cc)
 from-start sheet groups (is-read list found w) e =
     let none = empty list (w .no-rule-first refl) in
     let same-groups : found ≡ groups = cc in
@@ -54,7 +55,7 @@ record AfterGroup (one : Gate) (found : Rest) (list : List Rule) (more : List Gr
 
 after-group : (one : Gate) (found : Rest) (list : List Rule) (more : List Group)
     → groupThen one found ≡ holding list more → AfterGroup one found list more
-after-group one (faulty-at place) list more e = let z : _≡_ {A = ℕ} 0 1 = cc in absurd (omega arith)
+after-group one (faulty-at place) list more e = apart (cc)
 after-group one (holding rules groups) list more e =
     record { rules-then = rules; groups-then = groups; rest-then = refl; none-before = cc; group-first = cc }
 
@@ -65,7 +66,7 @@ record AfterRule (one : Rule) (found : Rest) (list : List Rule) (more : List Gro
 
 after-rule : (one : Rule) (found : Rest) (list : List Rule) (more : List Group) → ruleThen one found ≡ holding list more
     → AfterRule one found list more
-after-rule one (faulty-at place) list more e = let z : _≡_ {A = ℕ} 0 1 = cc in absurd (omega arith)
+after-rule one (faulty-at place) list more e = apart (cc)
 after-rule one (holding rules groups) list more e =
     let same-groups : groups ≡ more = cc in
     record { rules-then = rules; rest-then = ap (holding rules) same-groups; rule-first = cc }
@@ -114,8 +115,7 @@ module _ {sheet : List ℕ} {at groups rules : ℕ} {list : List Rule} {more : L
       by-test (faulty groups rules rest)
       (λ p.
       let refused = sym (fault-step (length rest) groups rules at rest p) ∙ one-record in
-      let z : _≡_ {A = ℕ} 0 1 = cc in
-      absurd (omega arith))
+      apart (cc))
       (λ p. p)
 
   pub never-over : at < length sheet

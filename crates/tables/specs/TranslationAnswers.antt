@@ -6,6 +6,7 @@ use native.Mathlib.Omega.{arith}
 use lib.ListN.{length, drop}
 use borrow.Author.Tests.{lt-ltb, le-ltb}
 use Rattle.paper.specs.Groups.{Group}
+use Rattle.sheets.specs.Apart.{apart}
 use Rattle.sheets.specs.Sheets.{Sheet, refused, accepted, readSheet}
 use Rattle.sheets.specs.Nodes.{nodeCount}
 use Rattle.sheets.specs.Answers.{answer, checked}
@@ -18,12 +19,12 @@ use Rattle.tables.specs.declared.Translated.the-variants.{Nodes, Refused
 
 accepted-by : (found : Sheet) (nodes : ℕ) → answer found ≡ Counted nodes → (found ≡ accepted (groupsIn found)) × (nodes ≡ nodeCount (groupsIn found))
 unfolding groupsIn
-accepted-by (refused place) nodes e = let z : _≡_ {A = ℕ} 0 1 = cc in absurd (omega arith)
+accepted-by (refused place) nodes e = apart (cc)
 accepted-by (accepted groups) nodes e = (refl, cc)
 
 refused-by : (found : Sheet) (place : ℕ) → answer found ≡ Faulty place → found ≡ refused place
 refused-by (refused other) place e = cc
-refused-by (accepted groups) place e = let z : _≡_ {A = ℕ} 0 1 = cc in absurd (omega arith)
+refused-by (accepted groups) place e = apart (cc)
 
 pub checked-accepted : (sheet : List ℕ) (nodes : ℕ) → checked sheet ≡ Counted nodes → Accepted sheet × (nodes ≡ nodeCount (groupsOf sheet))
 unfolding checked groupsOf

@@ -69,7 +69,8 @@ picked-none : (table : List ℕ) (root found : ℕ) (word : List ℕ) (number : 
 unfolding picked pick
 picked-none table root found word number list e = rw e
 
-module _ (table : List ℕ) (root found : ℕ) (word : List ℕ) (number : ℕ) (list : List Rule) (one : Rule) (more : List Rule) (split : list ≡ one ∷ more) where
+module _ (table : List ℕ) (root found : ℕ) (word : List ℕ) (number : ℕ) (list : List Rule) (one : Rule) (more : List Rule)
+    (split : list ≡ one ∷ more) where
   picked-here : obeys table root found word number (one .condition) (one .ending) ≡ true → picked table root found word number list ≡ some one
   unfolding picked pick obeys
   picked-here t = rw (split, t)
@@ -100,23 +101,26 @@ module _ {table : List ℕ} {root found : ℕ} {word sheet : List ℕ} {groups s
     abbrev facts : RuleFacts sheet place c a o s1 s2 (rule (body (drop place sheet)))
     facts = rule-facts sheet place c a o s1 s2 e
 
-    tested : (test : Bool) → obeys table root found word (rules + 1) c (take s1 (drop (place + 8) sheet)) ≡ test
-        → obeys table root found word (rules + 1) (next .one .condition) (next .one .ending) ≡ test
-    tested test t =
-        let same-condition : next .one .condition ≡ c = ap (λ (one : Rule). one .condition) (next .is-here) ∙ facts .condition-is in
-        rw (same-condition, ← next .ending-here) t
+    -- how the rule that stands here was judged
+    abbrev Judged : Bool → Type 0
+    Judged judged = judged ≡ obeys table root found word (rules + 1) c (take s1 (drop (place + 8) sheet))
 
-    pub trying-here : obeys table root found word (rules + 1) c (take s1 (drop (place + 8) sheet)) ≡ true
-        → answer ≡ some (rule (body (drop place sheet)))
-    trying-here t =
+    tested : {judged : Bool} (test : Bool) → Judged judged → judged ≡ test
+        → obeys table root found word (rules + 1) (next .one .condition) (next .one .ending) ≡ test
+    tested test is t =
+        let same-condition : next .one .condition ≡ c = ap (λ (one : Rule). one .condition) (next .is-here) ∙ facts .condition-is in
+        rw (same-condition, ← next .ending-here) (sym is ∙ t)
+
+    pub trying-here : {judged : Bool} → Judged judged → judged ≡ true → answer ≡ some (rule (body (drop place sheet)))
+    trying-here is t =
         sym (state .decides)
-        ∙ picked-here table root found word (rules + 1) (state .list) (next .one) (next .rules-then) (next .rule-first) (tested true t)
+        ∙ picked-here table root found word (rules + 1) (state .list) (next .one) (next .rules-then) (next .rule-first) (tested true is t)
         ∙ ap some (next .is-here)
 
-    pub trying-next : obeys table root found word (rules + 1) c (take s1 (drop (place + 8) sheet)) ≡ false
+    pub trying-next : {judged : Bool} → Judged judged → judged ≡ false
         → Trying table root found word sheet groups start first (place + (8 + s1 + s2)) (rules + 1)
-    trying-next t =
-        let passed = picked-next table root found word (rules + 1) (state .list) (next .one) (next .rules-then) (next .rule-first) (tested false t) in
+    trying-next is t =
+        let passed = picked-next table root found word (rules + 1) (state .list) (next .one) (next .rules-then) (next .rule-first) (tested false is t) in
         record {
           list = next .rules-then;
           more = state .more;

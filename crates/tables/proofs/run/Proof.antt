@@ -59,15 +59,17 @@ slice-aggregate-same-numbers-2 : tie.Need-slice-aggregate-same-numbers-2
 slice-aggregate-same-numbers-2 c =
     let small = accepted-of (c .before .before .before) .2 in
     let long = c .before .before .before .before .before .before .before .translate .kept .1 .0 in
-    sym (length-take-le (4 * c .before .before .before .before .found2 .given .0 .0) (c .before .before .before .before .before .before .before .translate .last .1 .0) (omega arith))
+    let nodes = c .before .before .before .before .found2 .given .0 .0 in
+    sym (length-take-le (4 * nodes) (c .before .before .before .before .before .before .before .translate .last .1 .0) (omega arith))
 
 same-numbers-requires : tie.Need-same-numbers-requires
 same-numbers-requires c κs = search needs
 
 returns-2 : tie.Need-returns-2
 returns-2 c =
-    run-other _ _ _ _ _ (sym (c .before .before .before .before .before .before .found2 .given .1) ∙ c .before .before .before .before .before .before .before .before .before .translate .ensures .0) _
-    (c .before .before .before .before .before .before .before .before .before .translate .ensures .1) _ (c .before .same-numbers .ensures) (not-true _ (c .if2 .taken))
+    let translated = c .before .before .before .before .before .before .before .before .before .translate .ensures in
+    run-other _ _ _ _ _ (sym (c .before .before .before .before .before .before .found2 .given .1) ∙ translated .0) _ (translated .1) _
+    (c .before .same-numbers .ensures) (not-true _ (c .if2 .taken))
 
 slice-aggregate-word-run : tie.Need-slice-aggregate-word-run
 slice-aggregate-word-run c = sym (length-take-le (4 *
@@ -91,11 +93,9 @@ same-length c = search needs
 
 returns-5 : tie.Need-returns-5
 returns-5 c =
-    run-right _ _ _ _ _
-    (sym (c .before .before .before .before .before .before .before .before .before .before .before .found2 .given .1)
-    ∙ c .before .before .before .before .before .before .before .before .before .before .before .before .before .before .translate .ensures .0) _
-    (c .before .before .before .before .before .before .before .before .before .before .before .before .before .before .translate .ensures .1) _
-    (c .before .before .before .before .before .before .same-numbers .ensures) _ _
+    let translated = c .before .before .before .before .before .before .before .before .before .before .before .before .before .before .translate .ensures in
+    run-right _ _ _ _ _ (sym (c .before .before .before .before .before .before .before .before .before .before .before .found2 .given .1) ∙ translated .0) _
+    (translated .1) _ (c .before .before .before .before .before .before .same-numbers .ensures) _ _
     (not-false _ (c .before .before .before .before .before .if2 .left)) (c .before .before .word-run .ensures)
 
 pub run-spec : {M : Type 1} → statement M

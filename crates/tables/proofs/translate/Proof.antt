@@ -27,7 +27,8 @@ enum-known-found-2 : tie.Need-enum-known-found-2
 enum-known-found-2 c = search needs
 
 -- the sheet is accepted, with so many nodes
-counted-of : (c : tie.After-known-told2) → checked (c .before .before .before .before .before .before .args .sheet .now) ≡ Counted (c .before .found2 .given .0 .0)
+counted-of : (c : tie.After-known-told2)
+    → checked (c .before .before .before .before .before .before .args .sheet .now) ≡ Counted (c .before .found2 .given .0 .0)
 counted-of c = sym (c .before .before .before .check .ensures) ∙ c .before .found2 .given .1
 
 mul-end : tie.Need-mul-end
@@ -67,7 +68,9 @@ same-length : tie.Need-same-length
 same-length c = search needs
 
 returns-3 : tie.Need-returns-3
-returns-3 c = translation-done _ _ _ (counted-of (c .before .before .before .before .before .before .before)) _ (c .before .before .before .before .before .before .if1 .left) (c .before .before .lay .ensures)
+returns-3 c =
+    translation-done _ _ _ (counted-of (c .before .before .before .before .before .before .before)) _
+    (c .before .before .before .before .before .before .if1 .left) (c .before .before .lay .ensures)
 
 returns-4 : tie.Need-returns-4
 returns-4 c =

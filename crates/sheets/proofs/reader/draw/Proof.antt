@@ -97,8 +97,8 @@ walk 𝓤 H A W C Λ fm known-made known-next κ q reader are =
     calls of-reader a-record IsNext 𝓤 H A κ q (r, tt) (u ∷ [], tt) ! fm known-next
     (and-then ! (load ! (from ! (stop !)) (look ! 1 refl)) (no-more !)) (λ w one is-next.
     -- [the record; the token; the four locals]
-    peeks ! drawn.the-row (Is drawn.the-row) (shows 𝓤 H A drawn.the-row) one (w ∷ []) (λ fine′.
-    land ! (from ! (stop !)) (init ! 8 refl (EL.lawful drawn.the-type records.the-laws 𝓤 H A W tt .typed one _ fine′ .0)) $
+    peeks ! drawn.the-row (Is drawn.the-row) (shows 𝓤 H A drawn.the-row) one (w ∷ []) (λ whole.
+    land ! (from ! (stop !)) (init ! 8 refl (EL.lawful drawn.the-type records.the-laws 𝓤 H A W tt .typed one _ whole .0)) $
     returns ! (look ! 8 refl) $ forget ! 2 refl $ forget ! 4 refl $ forget ! 6 refl $ forget ! 8 refl $
     move ! (8 ∷ 9 ∷ []) $ free1 ! $ move ! (6 ∷ 7 ∷ []) $ free1 ! $ move ! (4 ∷ 5 ∷ []) $ free1 ! $ move ! (2 ∷ 3 ∷ []) $ free1 ! $ free0 ! $
     move ! (1 ∷ 0 ∷ []) $ by ! (leaves of-sheet a-record IsAt 𝓤 H A κ q (fields reader) W one w (is-at κ reader r one is-made is-next))))))))))

@@ -29,11 +29,8 @@ same-length c = search needs
 
 returns : tie.Need-returns
 returns c =
-    let a = c .before .before .before .before .before .args in (
-      grow-found (a .table .now) (a .count) (a .at) (a .letter) _ _ (c .before .before .before .wide .ensures)
-          (c .before .child .ensures .0) (c .if1 .taken),
-      (omega arith, omega arith),
-    )
+    let found = c .before .child .ensures .0 in
+    (grow-found _ _ _ _ _ _ (c .before .before .before .wide .ensures) found (c .if1 .taken), (omega arith, omega arith))
 
 sub-if2 : tie.Need-sub-if2
 sub-if2 c = search needs
@@ -43,11 +40,8 @@ same-length-2 c = search needs
 
 returns-2 : tie.Need-returns-2
 returns-2 c =
-    let a = c .before .before .before .before .before .before .args in (
-      grow-full (a .table .now) (a .count) (a .at) (a .letter) _ _ (c .before .before .before .before .wide .ensures)
-          (c .before .before .child .ensures .0) (c .before .if1 .left) (c .if2 .taken),
-      (omega arith, omega arith),
-    )
+    let found = c .before .before .child .ensures .0 in
+    (grow-full _ _ _ _ _ _ (c .before .before .before .before .wide .ensures) found (c .before .if1 .left) (c .if2 .taken), (omega arith, omega arith))
 
 slice-reshare-prefix-chain-end : tie.Need-slice-reshare-prefix-chain-end
 slice-reshare-prefix-chain-end c = search needs
@@ -71,18 +65,13 @@ same-length-3 c = search needs
 
 returns-3 : tie.Need-returns-3
 returns-3 c =
-    let a = c .before .before .before .before .before .before .before .before .before .before .before .before .args in (
-      grow-new (a .table .now) (a .count) (a .at) (a .letter) _ _
-          (c .before .before .before .before .before .before .before .before .before .before .wide .ensures)
-          (c .before .before .before .before .before .before .before .before .child .ensures .0) _ _
-          (c .before .before .before .before .before .before .before .if1 .left)
-          (c .before .before .before .before .before .before .if2 .left)
+    let pre = c .before .before .before .before .before .before .before .before .before .before .before .before .pre in
+    let one = c .before .before .before .before .before .before .before .before .before .before .wide .ensures in
+    let found = c .before .before .before .before .before .before .before .before .child .ensures .0 in
+    let room = c .before .before .before .before .before .before .if2 .left in (
+      grow-new _ _ _ _ _ _ one found _ _ (c .before .before .before .before .before .before .before .if1 .left) room
           (c .before .before .before .before .chain-end .ensures) (c .before .before .hang .ensures),
-      (
-        omega (arith, c .before .before .before .before .before .before .if2 .left),
-        omega
-            (arith, c .before .before .before .before .before .before .before .before .before .before .before .before .pre),
-      ),
+      (omega arith, omega arith),
     )
 
 pub grow-spec : {M : Type 1} → statement M

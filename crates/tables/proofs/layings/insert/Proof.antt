@@ -70,26 +70,20 @@ same-length c = c .before .before .put .kept .0 ∙ c .before .before .before .b
 
 returns : tie.Need-returns Inv-loop μ-loop
 returns c =
-    let a = c .before .before .before .before .before .before .before .before .before .before .before .args in
-    let turn = c .before .before .before .before .before .before .before .before .loop in
-    let whole = sym (enter-over (a .ending .now) (turn .left) _
-    (c .before .before .before .before .before .before .before .loop-test .left)) ∙ turn .inv .0 in
-    let read = c .before .before .before .before .before .number-at .ensures .0 in (
-      note-new _ _ (a .rule) _ _ whole read (c .before .before .before .before .if1 .taken)
-          (c .before .before .put .ensures),
-      ap (λ (now : Laying). now .count) whole,
-    )
+    let now = c .before .before .before .before .before .before .before .before .loop in
+    let whole = sym (enter-over _ (now .left) _ (c .before .before .before .before .before .before .before .loop-test .left)) ∙ now .inv .0 in
+    let read = c .before .before .before .before .before .number-at .ensures .0 in
+    (note-new _ _ _ _ _ whole read (c .before .before .before .before .if1 .taken) (c .before .before .put .ensures), ap (λ (laid : Laying). laid .count) whole)
 
 same-length-2 : tie.Need-same-length-2 Inv-loop μ-loop
 same-length-2 c = c .before .before .before .before .loop .inv .1
 
 returns-2 : tie.Need-returns-2 Inv-loop μ-loop
 returns-2 c =
-    let a = c .before .before .before .before .before .before .before .args in
-    let turn = c .before .before .before .before .loop in
-    let whole = sym (enter-over (a .ending .now) (turn .left) _ (c .before .before .before .loop-test .left)) ∙ turn .inv .0 in
+    let now = c .before .before .before .before .loop in
+    let whole = sym (enter-over _ (now .left) _ (c .before .before .before .loop-test .left)) ∙ now .inv .0 in
     let read = c .before .number-at .ensures .0 in
-    (note-kept _ _ (a .rule) _ whole read (c .if1 .left), ap (λ (now : Laying). now .count) whole)
+    (note-kept _ _ _ _ whole read (c .if1 .left), ap (λ (laid : Laying). laid .count) whole)
 
 pub insert-spec : {M : Type 1} → statement M
 insert-spec =

@@ -53,6 +53,7 @@ returns c =
 enum-known-record : tie.Need-enum-known-record Inv-loop μ-loop
 enum-known-record c = search needs
 
+-- a rule was drawn, and this stands after it
 rule-of : (c : tie.After-known-told Inv-loop μ-loop)
     → (let numbers = c .before .record .given .0 in
     RuleNext (c .before .before .before .before .before .loop .inv .3 .holds-here) (numbers .1 .1 .1 .0) (numbers .1 .1 .1 .1 .0))
@@ -73,8 +74,8 @@ returns-2 : tie.Need-returns-2 Inv-loop μ-loop
 returns-2 c =
     let turn = c .before .before .before .before .before .before .before .loop in
     let found = sym (c .before .before .before .before .before .draw .ensures) ∙ c .before .before .before .record .given .1 in
-    rw (trying-here (turn .inv .3) found (sym (c .before .obeys .ensures) ∙ c .if1 .taken))
-    (turn .inv .1, _, rule-facts (c .before .before .before .before .before .before .before .before .before .before .before .args .sheet .now) (turn .place) _ _ _ _ _ found)
+    rw (trying-here (turn .inv .3) found (c .before .obeys .ensures) (c .if1 .taken))
+    (turn .inv .1, _, rule-facts _ (turn .place) _ _ _ _ _ found)
 
 add-place : tie.Need-add-place Inv-loop μ-loop
 add-place c = let inside = rule-of (c .before .before) .inside in omega arith
@@ -96,7 +97,7 @@ loop-again c =
       next .inside,
       omega arith,
       omega (arith, next .few),
-      trying-next (turn .inv .3) found (sym (c .before .obeys .ensures) ∙ c .if1 .left),
+      trying-next (turn .inv .3) found (c .before .obeys .ensures) (c .if1 .left),
     )
 
 enum-told-2 : tie.Need-enum-told-2 Inv-loop μ-loop

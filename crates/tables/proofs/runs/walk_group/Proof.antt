@@ -2,8 +2,10 @@
 use Prim.Native.Nat.{_+_, _-_}
 use mathlib.Core.Path.{_≡_, sym}
 use native.Mathlib.Omega.{arith}
+use mathlib.Core.List.{List}
 use lib.ListN.{take}
 use lib.Seq.{length-take-le}
+use Rattle.paper.specs.Groups.{Rule}
 use Rattle.tables.specs.Walk.{walkGroup}
 use Rattle.tables.specs.TryLaws.{rulesOf, restAt, none-picked-as, some-picked-as}
 use Rattle.tables.specs.StepLaws.{step-none, step-turned-down, Obeyed, obeyed}
@@ -24,10 +26,14 @@ deepest-requires c κs = search needs
 same-length : tie.Need-same-length
 same-length c = search needs
 
+-- the rules of the group
+abbrev own : tie.Start → List Rule
+own start = rulesOf (restAt (start .args .sheet .now) (start .args .at) (start .args .groups) (start .args .rules))
+
 returns : tie.Need-returns
 returns c =
-    let within = c .before .before .before .before .before .before .pre .1 .1 .1 .1 .1 in
-    step-none _ _ _ _ _ _ _ within (c .before .deepest .ensures) (c .if1 .taken)
+    let start = c .before .before .before .before .before .before in
+    step-none _ _ _ _ _ (own start) _ (start .pre .1 .1 .1 .1 .1) (c .before .deepest .ensures) (c .if1 .taken)
 
 slice-reshare-prefix-tried-at : tie.Need-slice-reshare-prefix-tried-at
 slice-reshare-prefix-tried-at c = search needs
@@ -45,20 +51,20 @@ same-length-2 c = search needs
 
 returns-2 : tie.Need-returns-2
 returns-2 c =
-    let within = c .before .before .before .before .before .before .before .before .before .pre .1 .1 .1 .1 .1 in
-    step-turned-down _ _ _ _ _ _ _ within (c .before .before .before .before .deepest .ensures) (c .before .before .before .if1 .left)
+    let start = c .before .before .before .before .before .before .before .before .before in
+    step-turned-down _ _ _ _ _ (own start) _ (start .pre .1 .1 .1 .1 .1) (c .before .before .before .before .deepest .ensures) (c .before .before .before .if1 .left)
     (none-picked-as _ _ _ _ _ _ _ (c .before .tried-at .ensures) (c .if2 .taken))
 
 -- a rule was picked, and so it is obeyed
 obeyed-of : (c : tie.Else2)
-    → (let a = c .before .before .before .before .before .before .before .before .before .args in
+    → (let start = c .before .before .before .before .before .before .before .before .before in
+    let a = start .args in
     let rule = c .before .tried-at .result in
-    Obeyed (walkGroup (a .table .now) (a .root) (a .rules + 1) (take (a .size) (a .word .now))
-    (rulesOf (restAt (a .sheet .now) (a .at) (a .groups) (a .rules)))) (a .sheet .now) (a .word .now) (a .size)
-    (rule .place) (rule .action) (rule .opens) (rule .ending) (rule .replacement))
+    Obeyed (walkGroup (a .table .now) (a .root) (a .rules + 1) (take (a .size) (a .word .now)) (own start)) (a .sheet .now)
+    (a .word .now) (a .size) (rule .place) (rule .action) (rule .opens) (rule .ending) (rule .replacement))
 obeyed-of c =
-    let within = c .before .before .before .before .before .before .before .before .before .pre .1 .1 .1 .1 .1 in
-    obeyed _ _ _ _ _ _ _ within (c .before .before .before .before .deepest .ensures) (c .before .before .before .if1 .left)
+    let start = c .before .before .before .before .before .before .before .before .before in
+    obeyed _ _ _ _ _ (own start) _ (start .pre .1 .1 .1 .1 .1) (c .before .before .before .before .deepest .ensures) (c .before .before .before .if1 .left)
     _ _ _ _ _ _ (some-picked-as _ _ _ _ _ _ _ (c .before .tried-at .ensures) (c .if2 .left))
 
 less-requires : tie.Need-less-requires

@@ -49,6 +49,7 @@ draw-requires c κs = tt
 enum-known-found : tie.Need-enum-known-found Inv-loop μ-loop
 enum-known-found c = search needs
 
+-- a group was drawn, and this stands after it
 group-of : (c : tie.After-known-told Inv-loop μ-loop)
     → GroupNext (c .before .before .before .before .before .loop .inv .5 .holds) (c .before .found .given .0 .0)
 group-of c =
@@ -76,8 +77,10 @@ same-length c = c .before .before .before .before .walk-group .kept .1 .1 .1 .1 
 returns : tie.Need-returns Inv-loop μ-loop
 returns c =
     let turn = c .before .before .before .before .before .before .before .before .before .before .before .before .loop in
-    rw (← walking-outgrown (turn .inv .5) (group-of (c .before .before .before .before .before .before .before)) _ _ _ _ (c .before .before .before .before .before .before .if1 .taken)
-    (rw (turn .inv .4) at (c .before .before .before .before .walk-group .ensures)) (not-true _ (c .if2 .taken))) tt
+    let next = group-of (c .before .before .before .before .before .before .before) in
+    let runs = c .before .before .before .before .before .before .if1 .taken in
+    let stepped = rw (turn .inv .4) at (c .before .before .before .before .walk-group .ensures) in
+    rw (← walking-outgrown (turn .inv .5) next _ _ _ _ runs stepped (not-true _ (c .if2 .taken))) tt
 
 loop-less : tie.Need-loop-less Inv-loop μ-loop
 loop-less c = let inside = group-of (c .before .before .before .before .before .before .before) .inside in omega arith
@@ -87,14 +90,16 @@ loop-again c =
     let turn = c .before .before .before .before .before .before .before .before .before .before .before .before .loop in
     let next = group-of (c .before .before .before .before .before .before .before) in
     let kept = c .before .before .before .before .walk-group .kept .1 .1 .1 .1 .1 .1 .0 in
-    let left = c .before .before .before .before .walk-group .ensures .letters (not-false _ (c .if2 .left)) in (
+    let fits = not-false _ (c .if2 .left) in
+    let left = c .before .before .before .before .walk-group .ensures .letters fits in
+    let runs = c .before .before .before .before .before .before .if1 .taken in
+    let stepped = rw (turn .inv .4) at (c .before .before .before .before .walk-group .ensures) in (
       next .inside,
       omega (arith, next .few),
       turn .inv .2,
       omega (arith, left .1, kept),
       kept ∙ turn .inv .4,
-      walking-step (turn .inv .5) next _ _ _ _ (c .before .before .before .before .before .before .if1 .taken) (rw (turn .inv .4) at (c .before .before .before .before .walk-group .ensures))
-          (not-false _ (c .if2 .left)),
+      walking-step (turn .inv .5) next _ _ _ _ runs stepped fits,
     )
 
 loop-less-2 : tie.Need-loop-less-2 Inv-loop μ-loop
@@ -110,6 +115,7 @@ loop-again-2 c =
 enum-known-found-2 : tie.Need-enum-known-found-2 Inv-loop μ-loop
 enum-known-found-2 c = search needs
 
+-- a rule was drawn, and this stands after it
 rule-of : (c : tie.After-known-told2 Inv-loop μ-loop)
     → (let numbers = c .before .found2 .given .0 in
     RuleNext (c .before .before .before .before .before .loop .inv .5 .holds) (numbers .1 .1 .1 .0) (numbers .1 .1 .1 .1 .0))

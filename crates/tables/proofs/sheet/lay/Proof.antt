@@ -62,6 +62,7 @@ draw-requires c κs = tt
 enum-told : tie.Need-enum-told Inv-loop μ-loop
 enum-told c = search needs
 
+-- a group was drawn, and this stands after it
 group-of : (c : tie.After-enum-told Inv-loop μ-loop)
     → GroupNext (c .before .before .before .before .loop .inv .5 .holds) (c .enum-told .given .0 .0)
 group-of c =
@@ -86,6 +87,7 @@ loop-again c =
 enum-known-found : tie.Need-enum-known-found Inv-loop μ-loop
 enum-known-found c = search needs
 
+-- a rule was drawn, and this stands after it
 rule-of : (c : tie.After-known-told Inv-loop μ-loop)
     → (let numbers = c .before .found .given .0 in
     RuleNext (c .before .before .before .before .before .loop .inv .5 .holds) (numbers .1 .1 .1 .0) (numbers .1 .1 .1 .1 .0))

@@ -34,6 +34,7 @@ wide-requires c κs = search needs
 child-requires : tie.Need-child-requires Inv-loop μ-loop
 child-requires c κs = search needs
 
+-- one letter further
 turn-of : (c : tie.After-child Inv-loop μ-loop)
     → (let a = c .before .before .before .before .before .before .before .args in
     let now = c .before .before .before .before .loop in

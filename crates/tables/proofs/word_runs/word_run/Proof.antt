@@ -6,6 +6,7 @@ use lib.Seq.{length-take-le}
 use Rattle.tables.specs.Walk.{walkWord}
 use Rattle.tables.specs.Answers.{groupsOf}
 use Rattle.tables.specs.RanLaws.{
+  Taken,
   ran-empty,
   ran-long,
   ran-letter,
@@ -37,6 +38,15 @@ returns-3 : tie.Need-returns-3
 returns-3 c =
     ran-letter _ _ (c .before .before .before .before .if1 .left) (c .before .before .before .if2 .left) _ (c .before .first-other .ensures) (c .if3 .taken)
 
+-- the word is read
+taken-of : (c : tie.Else3) → Taken (c .before .before .before .before .before .before .before .before .args .word .now)
+taken-of c =
+    record {
+      some = c .before .before .before .before .if1 .left;
+      short = c .before .before .before .if2 .left;
+      letters = rw (c .before .first-other .ensures) at (c .if3 .left);
+    }
+
 slice-aggregate-put : tie.Need-slice-aggregate-put
 slice-aggregate-put c = search needs
 
@@ -66,8 +76,11 @@ array-share-prefix-saved : tie.Need-array-share-prefix-saved
 array-share-prefix-saved c = search needs
 
 slice-aggregate-put-2 : tie.Need-slice-aggregate-put-2
-slice-aggregate-put-2 c = sym (length-take-le (length
-    (c .before .before .before .before .before .before .before .before .before .before .before .before .before .before .before .before .before .before .before .before .args .word .now)) (c .before .before .before .before .before .before .before .before .before .put .last .0) (omega (arith, c .before .before .before .before .before .before .before .before .before .put .kept .0, c .before .before .before .before .before .before .before .before .before .before .before .before .before .before .before .if2 .left)))
+slice-aggregate-put-2 c =
+    let word = c .before .before .before .before .before .before .before .before .before .before .before .before .before .before .before .before .before .before .before .before .args .word .now in
+    let short = c .before .before .before .before .before .before .before .before .before .before .before .before .before .before .before .if2 .left in
+    let saved = c .before .before .before .before .before .before .before .before .before .put in
+    sym (length-take-le (length word) (saved .last .0) (omega (arith, saved .kept .0)))
 
 put-requires-2 : tie.Need-put-requires-2
 put-requires-2 c κs = search needs
@@ -80,11 +93,8 @@ returns-4 c =
     let left = stem-of (c .before .before .before .before) in
     let kept = c .before .before .before .before .before .before .before .before .before .walk-groups .kept .1 .1 .0 in
     let filled = placed-letters _ (left .stem) _ _ _ (left .letters) (left .within) kept (c .before .before .fill .ensures) in
-    ran-done _ _
-    (c .before .before .before .before .before .before .before .before .before .before .before .before .before .before .before .before .before .before .before .if1 .left)
-    (c .before .before .before .before .before .before .before .before .before .before .before .before .before .before .before .before .before .before .if2 .left) _
-    (c .before .before .before .before .before .before .before .before .before .before .before .before .before .before .before .before .first-other .ensures)
-    (c .before .before .before .before .before .before .before .before .before .before .before .before .before .before .before .if3 .left) (left .stem) _ _ (left .is-done) (filled .1) (filled .0)
+    let taken = taken-of (c .before .before .before .before .before .before .before .before .before .before .before .before .before .before .before) in
+    ran-done _ _ taken (left .stem) _ _ (left .is-done) (filled .1) (filled .0)
 
 same-length-3 : tie.Need-same-length-3
 same-length-3 c = search needs
@@ -92,15 +102,12 @@ same-length-3 c = search needs
 returns-5 : tie.Need-returns-5
 returns-5 c =
     let word = c .before .before .before .before .before .before .before .before .before .before .before .before .before .before .before .before .before .before .before .before .before .before .before .args .word .now in
-    let out = outgrown-of _ _ _ (c .before .before .before .before .before .before .before .before .before .walk-groups .ensures) (c .before .before .before .before .before .enum-told .given .1) in
-    let kept = c .before .before .before .before .before .before .before .before .before .walk-groups .kept .1 .1 .0 in
+    let walked = c .before .before .before .before .before .before .before .before .before .walk-groups in
+    let out = outgrown-of _ _ _ (walked .ensures) (c .before .before .before .before .before .enum-told .given .1) in
     let saved = c .before .before .before .before .before .before .before .before .before .before .before .before .put .ensures in
-    let back = word-back word _ _ _ _ _ refl (omega arith) saved kept (c .before .before .put2 .ensures) in
-    ran-longer _ _
-    (c .before .before .before .before .before .before .before .before .before .before .before .before .before .before .before .before .before .before .before .if1 .left)
-    (c .before .before .before .before .before .before .before .before .before .before .before .before .before .before .before .before .before .before .if2 .left) _
-    (c .before .before .before .before .before .before .before .before .before .before .before .before .before .before .before .before .first-other .ensures)
-    (c .before .before .before .before .before .before .before .before .before .before .before .before .before .before .before .if3 .left) _ out back
+    let back = word-back word _ _ _ _ _ refl (omega arith) saved (walked .kept .1 .1 .0) (c .before .before .put2 .ensures) in
+    let taken = taken-of (c .before .before .before .before .before .before .before .before .before .before .before .before .before .before .before) in
+    ran-longer _ _ taken _ out back
 
 pub word-run-spec : {M : Type 1} → statement M
 word-run-spec =
