@@ -6,19 +6,18 @@ use mathlib.Core.Path.{_≡_, refl, ap, sym, _∙_}
 use mathlib.Core.Bool.{Bool, true, false, cond, _&&_, _||_}
 use mathlib.Core.List.{List, [], _∷_, _++_, map, reverse, append-assoc, reverse-append}
 use lib.Dec.{eqb, eqb·suc-zero}
-use lib.ListN.{length, take, drop, getD, length-append, length-reverse, List·getD-append}
+use lib.ListN.{length, take, drop, getD, length-append, length-map, length-reverse, List·getD-append}
 use lib.Seq.{getD-append-add, getD-at}
 use borrow.Author.Tests.{eq-eqb}
-use Rattle.paper.specs.Letters.{letterAt, inward}
+use Rattle.paper.specs.Letters.{among, letterAt, inward}
 use Rattle.paper.specs.Groups.{Rule, Group, same, endsWith, before, which, obeyed}
 use Rattle.paper.specs.TestLaws.{and-parts}
 use Rattle.paper.specs.GroupsLaws.{ends-split}
 use Rattle.paper.specs.ReadingLaws.{every, every-in, narrowed, same-fitting}
 use Rattle.paper.specs.LongerFirst.{keepsOrder, longerFirst, longerFirst-which}
-use Rattle.paper.specs.Words.{small}
 use Rattle.paper.specs.Shipped.{shipped}
-use Rattle.words.proofs.Joined.{starts-length, between}
-use Rattle.words.specs.Tables.{rulesOf, rules, noRule, ruleAt, may, numbers, byLetter, byGroup, candidates, candidateNumbers, candidateStarts, noGroup, groupRules, AllBelow, Column}
+use Rattle.words.proofs.Joined.{map-at, starts-length, between}
+use Rattle.words.specs.Tables.{rulesOf, rules, noRule, ruleAt, may, numbers, columns, byGroup, candidates, candidateNumbers, candidateStarts, noGroup, groupRules, AllBelow, Column}
 
 pub below-at : (n : ℕ) (ks : List ℕ) (i : ℕ) → AllBelow n ks → i < length ks → getD ks i 0 < n
 below-at n [] i b h = absurd (not-suc-le-zero h)
@@ -60,22 +59,20 @@ numbers-name test earlier (one ∷ group) later e =
 
 -- ══ The blocks of the index ══
 
-byLetter-length : (letter n from : ℕ) (group : List Rule) → length (byLetter letter n from group) ≡ n
-unfolding byLetter
-byLetter-length letter zero from group = refl
-byLetter-length letter (suc n) from group = ap suc (byLetter-length (suc letter) n from group)
+column-count : length columns ≡ 15
+unfolding columns
+column-count = refl
 
-byLetter-at :
-    (letter n from c : ℕ) (group : List Rule)
-    → c < n
-    → getD (byLetter letter n from group) c [] ≡ numbers (may (letter + c)) from group
-unfolding byLetter
-byLetter-at letter zero from c group h = absurd (not-suc-le-zero h)
-byLetter-at letter (suc n) from zero group h =
-    let same : letter ≡ letter + 0 = omega arith in ap (λ (l : ℕ). numbers (may l) from group) same
-byLetter-at letter (suc n) from (suc c) group h =
-    let same : suc letter + c ≡ letter + suc c = omega arith in
-    byLetter-at (suc letter) n from c group (le-of-suc-le-suc h) ∙ ap (λ (l : ℕ). numbers (may l) from group) same
+row : ℕ → List Rule → List (List ℕ)
+row from group = map (λ letter. numbers (may letter) from group) columns
+
+row-length : (from : ℕ) (group : List Rule) → length (row from group) ≡ 15
+unfolding row
+row-length from group = length-map columns _ ∙ column-count
+
+row-at : (from c : ℕ) (group : List Rule) → c < 15 → getD (row from group) c [] ≡ numbers (may (getD columns c 0)) from group
+unfolding row
+row-at from c group h = map-at (λ letter. numbers (may letter) from group) columns c 0 [] (rw column-count h)
 
 -- a block names the rules of its group that may have its letter last, and holds numbers of rules only
 pub record Block (numbers-of : List ℕ) (letter : ℕ) (group : List Rule) : Type 0 where
@@ -86,13 +83,13 @@ byGroup-at :
     (earlier : List Rule) (groups : List Group) (g c : ℕ)
     → earlier ++ rulesOf groups ≡ rules
     → g < length groups
-    → c < 26
-    → Block (getD (byGroup (length earlier) groups) (26 * g + c) []) (97 + c) (getD groups g noGroup .rules)
-unfolding byGroup rulesOf
+    → c < 15
+    → Block (getD (byGroup (length earlier) groups) (15 * g + c) []) (getD columns c 0) (getD groups g noGroup .rules)
+unfolding byGroup rulesOf row
 byGroup-at earlier [] g c e h k = absurd (not-suc-le-zero h)
 byGroup-at earlier (group ∷ groups) zero c e h k =
-    let size = byLetter-length 97 26 (length earlier) (group .rules) in
-    let here : 26 * 0 + c ≡ c = omega arith in
+    let size = row-length (length earlier) (group .rules) in
+    let here : 15 * 0 + c ≡ c = omega arith in
     let fits : length earlier + length (group .rules) ≤ length rules = rw (← e) (omega (
       arith,
       length-append earlier
@@ -101,24 +98,24 @@ byGroup-at earlier (group ∷ groups) zero c e h k =
     )) in
     rw (
       here,
-      List·getD-append (byLetter 97 26 (length earlier) (group .rules)) (byGroup (length earlier + length
+      List·getD-append (row (length earlier) (group .rules)) (byGroup (length earlier + length
           (group .rules)) groups) [] c (omega arith),
-      byLetter-at 97 26 (length earlier) c (group .rules) k,
+      row-at (length earlier) c (group .rules) k,
     )
     (record {
-      names = numbers-name (may (97 + c)) earlier (group .rules) (rulesOf groups) e;
+      names = numbers-name (may (getD columns c 0)) earlier (group .rules) (rulesOf groups) e;
       known = numbers-below (may
-          (97 + c)) (length rules) (length earlier) (group .rules) fits;
+          (getD columns c 0)) (length rules) (length earlier) (group .rules) fits;
     })
 byGroup-at earlier (group ∷ groups) (suc g) c e h k =
-    let blocks = byLetter 97 26 (length earlier) (group .rules) in
-    let size = byLetter-length 97 26 (length earlier) (group .rules) in
-    let place : 26 * suc g + c ≡ length blocks + (26 * g + c) = omega arith in
+    let blocks = row (length earlier) (group .rules) in
+    let size = row-length (length earlier) (group .rules) in
+    let place : 15 * suc g + c ≡ length blocks + (15 * g + c) = omega arith in
     let more : length (earlier ++ group .rules) ≡ length earlier + length (group .rules) = length-append earlier (group .rules) in
     let rest = byGroup-at (earlier ++ group .rules) groups g c (append-assoc earlier (group .rules) (rulesOf groups) ∙ e) (le-of-suc-le-suc h) k in
-    rw (place, getD-append-add blocks (byGroup (length earlier + length (group .rules)) groups) (26 * g + c) [], ← more) rest
+    rw (place, getD-append-add blocks (byGroup (length earlier + length (group .rules)) groups) (15 * g + c) [], ← more) rest
 
-pub block-at : (g c : ℕ) → g < 9 → c < 26 → Block (getD candidates (26 * g + c) []) (97 + c) (groupRules g)
+pub block-at : (g c : ℕ) → g < 9 → c < 15 → Block (getD candidates (15 * g + c) []) (getD columns c 0) (groupRules g)
 unfolding candidates rules groupRules shipped
 block-at g c h k = byGroup-at [] shipped g c refl h k
 
@@ -128,9 +125,9 @@ last-letter : (part s1 : List ℕ) → 0 < length s1 → letterAt 0 (part ++ s1)
 unfolding letterAt inward
 last-letter part s1 h = rw (reverse-append part s1) (List·getD-append (reverse s1) (reverse part) 0 0 (rw length-reverse h))
 
--- every ending is empty or has a small letter last
+-- every ending is empty, or its last letter has a column
 tidy : Rule → Bool
-tidy rule = eqb (length (rule .ending)) 0 || small (letterAt 0 (rule .ending))
+tidy rule = eqb (length (rule .ending)) 0 || among (letterAt 0 (rule .ending)) columns
 
 -- the rules of each group pass a test
 each : (List Rule → Bool) → List Group → Bool
@@ -149,53 +146,53 @@ each-at test (suc g) (group ∷ groups) empty all =
     each-at test g groups empty (and-parts (test (group .rules)) (each test groups) all .1)
 
 shipped-tidy : each (every tidy) shipped ≡ true
-unfolding each every tidy letterAt inward shipped
+unfolding each every tidy among columns letterAt inward shipped
 shipped-tidy = refl
 
 shipped-ordered : each longerFirst shipped ≡ true
 unfolding each longerFirst keepsOrder every endsWith same shipped
 shipped-ordered = refl
 
-ends-may : (word : List ℕ) (c : ℕ) (one : Rule) → Column word c → tidy one ≡ true → endsWith word (one .ending) ≡ true → may (97 + c) one ≡ true
+ends-may : (word : List ℕ) (c : ℕ) (one : Rule) → Column word c → tidy one ≡ true → endsWith word (one .ending) ≡ true → may (getD columns c 0) one ≡ true
 unfolding may tidy
 ends-may word c one column t e = go (one .ending) t (ends-split word (one .ending) e)
   where
     go :
         (s1 : List ℕ)
-        → (eqb (length s1) 0 || small (letterAt 0 s1)) ≡ true
+        → (eqb (length s1) 0 || among (letterAt 0 s1) columns) ≡ true
         → before word (one .ending) ++ s1 ≡ word
-        → (eqb (length s1) 0 || eqb (letterAt 0 s1) (97 + c)) ≡ true
+        → (eqb (length s1) 0 || eqb (letterAt 0 s1) (getD columns c 0)) ≡ true
     go [] t split = refl
     go (letter ∷ s1) t split =
         let filled : eqb (length (letter ∷ s1)) 0 ≡ false = eqb·suc-zero (length s1) in
         let last : letterAt 0 word ≡ letterAt 0 (letter ∷ s1) = ap (letterAt 0) (sym split)
         ∙ last-letter (before word (one .ending)) (letter ∷ s1) (omega arith) in
-        let here : 97 + c ≡ letterAt 0 word = column .1 (ap small last ∙ (rw filled at t)) in
-        rw filled (eq-eqb (letterAt 0 (letter ∷ s1)) (97 + c) (cc))
+        let here : getD columns c 0 ≡ letterAt 0 word = column .1 (ap (λ (l : ℕ). among l columns) last ∙ (rw filled at t)) in
+        rw filled (eq-eqb (letterAt 0 (letter ∷ s1)) (getD columns c 0) (cc))
 
 -- so a group may be read by its block alone
 pub by-block :
     (word : List ℕ) (g c : ℕ) (block : List ℕ)
     → Column word c
-    → Block block (97 + c) (groupRules g)
+    → Block block (getD columns c 0) (groupRules g)
     → obeyed word (map ruleAt block) ≡ obeyed word (groupRules g)
 unfolding groupRules every
 by-block word g c block column b =
     ap (obeyed word) (b .names)
-    ∙ same-fitting word (which (may (97 + c)) (groupRules g)) (groupRules g)
-    (narrowed word (may (97 + c)) (groupRules g)
+    ∙ same-fitting word (which (may (getD columns c 0)) (groupRules g)) (groupRules g)
+    (narrowed word (may (getD columns c 0)) (groupRules g)
     (λ one m e. ends-may word c one column (every-in tidy (groupRules g) (each-at (every tidy) g shipped refl shipped-tidy) m) e))
 
 -- and in a block, as in a group, no ending is a tail of a longer one that stands later
-pub block-ordered : (g c : ℕ) (block : List ℕ) → Block block (97 + c) (groupRules g) → longerFirst (map ruleAt block) ≡ true
+pub block-ordered : (g c : ℕ) (block : List ℕ) → Block block (getD columns c 0) (groupRules g) → longerFirst (map ruleAt block) ≡ true
 unfolding groupRules longerFirst
 block-ordered g c block b =
-    rw (b .names) (longerFirst-which (may (97 + c)) (groupRules g) (each-at longerFirst g shipped refl shipped-ordered))
+    rw (b .names) (longerFirst-which (may (getD columns c 0)) (groupRules g) (each-at longerFirst g shipped refl shipped-ordered))
 
 -- ══ The index as the functions are lent it ══
 
-block-count : length candidates ≡ 234
-unfolding candidates byGroup byLetter shipped
+block-count : length candidates ≡ 135
+unfolding candidates byGroup columns shipped
 block-count = refl
 
 -- the part of the index for a group and a column
@@ -203,21 +200,21 @@ abbrev pub few : List ℕ → List ℕ → ℕ → List ℕ
 few numbers-of places k = take (getD places (k + 1) 0 - getD places k 0) (drop (getD places k 0) numbers-of)
 
 pub record Indexed (numbers-of places : List ℕ) (g c : ℕ) : Type 0 where
-  pub known : 26 * g + c + 1 < length places
-  pub rising : getD places (26 * g + c) 0 ≤ getD places (26 * g + c + 1) 0
-  pub within : getD places (26 * g + c + 1) 0 ≤ length numbers-of
-  pub block : Block (few numbers-of places (26 * g + c)) (97 + c) (groupRules g)
+  pub known : 15 * g + c + 1 < length places
+  pub rising : getD places (15 * g + c) 0 ≤ getD places (15 * g + c + 1) 0
+  pub within : getD places (15 * g + c + 1) 0 ≤ length numbers-of
+  pub block : Block (few numbers-of places (15 * g + c)) (getD columns c 0) (groupRules g)
 
 pub indexed :
     (numbers-of places : List ℕ) (g c : ℕ)
     → numbers-of ≡ candidateNumbers
     → places ≡ candidateStarts
     → g < 9
-    → c < 26
+    → c < 15
     → Indexed numbers-of places g c
 unfolding candidateNumbers candidateStarts
 indexed numbers-of places g c numbers-are places-are h k =
-    let here = between candidates (26 * g + c) (omega (arith, block-count)) in
+    let here = between candidates (15 * g + c) (omega (arith, block-count)) in
     rw (numbers-are, places-are)
     (record {
       known = omega (arith, starts-length 0 candidates, block-count);

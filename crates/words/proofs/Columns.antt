@@ -1,10 +1,9 @@
 -- Each column of the tables, at the number of a rule, is what the rule says. Assumes nothing.
-use Prim.Native.Nat.{ℕ, zero, suc, _+_, _-_, _≤_, _<_}
-use native.Mathlib.Nat.{not-suc-le-zero, le-of-suc-le-suc}
+use Prim.Native.Nat.{ℕ, _+_, _-_, _≤_, _<_}
 use native.Mathlib.Omega.{arith}
 use mathlib.Core.Path.{_≡_, refl, ap, sym, _∙_}
 use mathlib.Core.Bool.{Bool, true, false, cond, _||_}
-use mathlib.Core.List.{List, [], _∷_, map}
+use mathlib.Core.List.{List, [], map}
 use lib.Dec.{eqb}
 use lib.ListN.{length, take, drop, getD, length-map, List·getD-map}
 use Rattle.paper.specs.Letters.{letters}
@@ -33,7 +32,7 @@ use Rattle.words.specs.Tables.{
   singles,
   openings,
 }
-use Rattle.words.proofs.Joined.{starts-length, between}
+use Rattle.words.proofs.Joined.{map-at, starts-length, between}
 
 pub rule-count : length rules ≡ 62
 unfolding rules rulesOf shipped
@@ -67,20 +66,9 @@ row-at list letters places number empty letters-are places-are known =
       part = here .part ∙ own;
     })
 
--- past no end, what stands beyond a list does not matter
-getD-either : {A : Type 0} (l : List A) (k : ℕ) (a b : A) → k < length l → getD l k a ≡ getD l k b
-getD-either [] k a b h = absurd (not-suc-le-zero h)
-getD-either (x ∷ l) zero a b h = refl
-getD-either (x ∷ l) (suc k) a b h = getD-either l k a b (le-of-suc-le-suc h)
-
--- a table of one number for each entry of a list
-number-at :
-    {A : Type 0} (f : A → ℕ) (l : List A) (k : ℕ) (other : A) → k < length l → getD (map f l) k 0 ≡ f (getD l k other)
-number-at f l k other h = getD-either (map f l) k 0 (f other) (rw length-map h) ∙ List·getD-map f l k other
-
 rule-number-at : (f : Rule → ℕ) (rule : ℕ) → rule < 62 → getD (map f rules) rule 0 ≡ f (ruleAt rule)
 unfolding ruleAt
-rule-number-at f rule known = number-at f rules rule noRule (rw rule-count known)
+rule-number-at f rule known = map-at f rules rule noRule 0 (rw rule-count known)
 
 -- a digit of 0 or 1
 from-digit : (b : Bool) → eqb (digit (cond b 1 0)) 49 ≡ b
@@ -105,7 +93,7 @@ pub gate-at :
 unfolding gateDigits
 gate-at g opened known =
     ap (λ (n : ℕ). eqb n 48 || opened)
-    (number-at (λ (group : Group). digit (gateNumber (group .gate))) shipped g noGroup (rw group-count known))
+    (map-at (λ (group : Group). digit (gateNumber (group .gate))) shipped g noGroup 0 (rw group-count known))
     ∙ gate-runs (getD shipped g noGroup .gate) opened
 
 pub condition-count : length conditionDigits ≡ 62

@@ -5,10 +5,17 @@ use native.Mathlib.Nat.{not-suc-le-zero, le-of-suc-le-suc}
 use native.Mathlib.Numerals.{add-one}
 use native.Mathlib.Omega.{arith}
 use mathlib.Core.Path.{_≡_, refl, ap, sym, _∙_}
-use mathlib.Core.List.{List, [], _∷_, _++_, append-assoc}
+use mathlib.Core.List.{List, [], _∷_, _++_, map, append-assoc}
 use lib.ListN.{length, take, drop, getD, length-append}
 use lib.Seq.{take-at, drop-at}
 use Rattle.words.specs.Tables.{joined, starts}
+
+-- a table of one entry for each of a list; past no end, what stands beyond it does not matter
+pub map-at :
+    {A B : Type 0} (f : A → B) (l : List A) (k : ℕ) (other : A) (none : B) → k < length l → getD (map f l) k none ≡ f (getD l k other)
+map-at f [] k other none h = absurd (not-suc-le-zero h)
+map-at f (x ∷ l) zero other none h = refl
+map-at f (x ∷ l) (suc k) other none h = map-at f l k other none (le-of-suc-le-suc h)
 
 pub starts-length : (from : ℕ) (lists : List (List ℕ)) → length (starts from lists) ≡ suc (length lists)
 unfolding starts

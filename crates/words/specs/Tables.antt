@@ -1,16 +1,15 @@
 -- The shipped rules column by column, computed from the list in `paper`: what the constant tables of `words` hold. Assumes
 -- nothing.
-use Prim.Native.Nat.{ℕ, zero, suc, _+_, _<_, _≤_}
+use Prim.Native.Nat.{ℕ, suc, _+_, _<_, _≤_}
 use mathlib.Core.Path.{_≡_}
 use mathlib.Core.Bool.{Bool, true, false, cond, _||_}
 use mathlib.Core.List.{List, [], _∷_, _++_, map}
 use mathlib.Core.Option.{Option, none, some}
 use lib.Dec.{eqb, ltb}
 use lib.ListN.{length, drop, getD}
-use Rattle.paper.specs.Letters.{letterAt, inward}
+use Rattle.paper.specs.Letters.{letters, among, letterAt, inward}
 use Rattle.paper.specs.Groups.{Action, replace, single-letter, Rule, Gate, always, if-opened, Group, endsWith, first}
 use Rattle.paper.specs.ReadingLaws.{obeys}
-use Rattle.paper.specs.Words.{small}
 use Rattle.paper.specs.Shipped.{shipped}
 
 -- lists one after the other, and where each starts, with the end of the last
@@ -115,18 +114,19 @@ unfoldable pub numbers : (Rule → Bool) → ℕ → List Rule → List ℕ
 numbers test from [] = []
 numbers test from (rule ∷ rest) = cond (test rule) (from ∷ numbers test (suc from) rest) (numbers test (suc from) rest)
 
--- for each letter from this one on, so many of them, the rules of a group that a word with this last letter may obey
-unfoldable pub byLetter : ℕ → ℕ → ℕ → List Rule → List (List ℕ)
-byLetter letter zero from group = []
-byLetter letter (suc more) from group = numbers (may letter) from group ∷ byLetter (suc letter) more from group
+-- the letters that an ending has last, by their columns; column 0 is for every other letter
+unfoldable pub columns : List ℕ
+unfolding letters
+columns = 0 ∷ letters "cdegilmnrstuyz"
 
--- the same for each group in turn
+-- for each group in turn, and each column, the rules that a word with this last letter may obey
 unfoldable pub byGroup : ℕ → List Group → List (List ℕ)
 byGroup from [] = []
-byGroup from (group ∷ groups) = byLetter 97 26 from (group .rules) ++ byGroup (from + length (group .rules)) groups
+byGroup from (group ∷ groups) =
+    map (λ letter. numbers (may letter) from (group .rules)) columns ++ byGroup (from + length (group .rules)) groups
 
 unfoldable pub candidates : List (List ℕ)
-unfolding byGroup byLetter numbers may letterAt inward shipped
+unfolding byGroup columns numbers may letterAt inward shipped
 candidates = byGroup 0 shipped
 
 unfoldable pub candidateNumbers : List ℕ
@@ -142,9 +142,9 @@ abbrev pub AllBelow : ℕ → List ℕ → Type 0
 AllBelow n [] = Unit {0}
 AllBelow n (k ∷ ks) = (k < n) × AllBelow n ks
 
--- c is the column of a word: where its last byte is a small letter, that letter's
+-- c is the column of a word: if its last letter has one, that letter's
 abbrev pub Column : List ℕ → ℕ → Type 0
-Column word c = (c < 26) × (small (letterAt 0 word) ≡ true → 97 + c ≡ letterAt 0 word)
+Column word c = (c < 15) × (among (letterAt 0 word) columns ≡ true → getD columns c 0 ≡ letterAt 0 word)
 
 -- the rule at this place of the candidates has an ending of n letters that ends the word
 abbrev pub EndsAt : List ℕ → ℕ → List ℕ → ℕ → Type 0

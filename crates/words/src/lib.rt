@@ -134,7 +134,7 @@ fn among(word: &[u8], candidates: &[u8], endings: &[u8], starts: &[u8], conditio
     62
 }
 
-// The column of the index for a word: that of its last letter.
+// The column of the index for a word: that of its last letter, 0 for a letter that no ending has last.
 fn column_of(word: &[u8]) -> usize
     ensures { λ r. ⌜ Column (now (word .entry)) r ⌝ }
 {
@@ -143,13 +143,23 @@ fn column_of(word: &[u8]) -> usize
         return 0;
     }
     let last = word[n - 1];
-    if last < 97 {
-        return 0;
+    match last {
+        b'z' => 14,
+        b'y' => 13,
+        b'u' => 12,
+        b't' => 11,
+        b's' => 10,
+        b'r' => 9,
+        b'n' => 8,
+        b'm' => 7,
+        b'l' => 6,
+        b'i' => 5,
+        b'g' => 4,
+        b'e' => 3,
+        b'd' => 2,
+        b'c' => 1,
+        _ => 0,
     }
-    if 122 < last {
-        return 0;
-    }
-    wide(last - 97)
 }
 
 // The rule of a group that the word obeys; 62 for none.
@@ -169,7 +179,7 @@ fn choose(
     ensures { λ r. ⌜ picked r ≡ obeyedOf (now (word .entry)) (groupRules group) ⌝ }
     ensures { λ r. ⌜ r ≤ 62 ⌝ }
 {
-    let at = 26 * group + column;
+    let at = 15 * group + column;
     let from = wide(blocks[at]);
     let to = wide(blocks[at + 1]);
     among(word, &candidates[from..to], endings, starts, conditions)

@@ -63,7 +63,7 @@ among-requires : tie.Need-among-requires
 among-requires c κs =
     let s = c .before .before .before .before .before .before .before .before .before .before .before in
     let index = indexed (s .args .candidates .now) (s .args .blocks .now) (s .args .group) (s .args .column) (s .pre .0 .1 .0) (s .pre .0 .1 .1) (s .pre .0 .0) (s .pre .1 .1 .0) in
-    let taken = part-is (s .args .candidates .now) (s .args .blocks .now) (26 * s .args .group + s .args .column)
+    let taken = part-is (s .args .candidates .now) (s .args .blocks .now) (15 * s .args .group + s .args .column)
     (c .before .before .before .wide .ensures) (c .before .wide2 .ensures) in
     ((rw taken (rw rule-count at (index .block .known)), rw taken (block-ordered (s .args .group) (s .args .column) _ (index .block))), s .pre .1 .0)
 
@@ -71,7 +71,7 @@ returns : tie.Need-returns
 returns c =
     let s = c .before .before .before .before .before .before .before .before .before .before .before .before in
     let index = indexed (s .args .candidates .now) (s .args .blocks .now) (s .args .group) (s .args .column) (s .pre .0 .1 .0) (s .pre .0 .1 .1) (s .pre .0 .0) (s .pre .1 .1 .0) in
-    let taken = part-is (s .args .candidates .now) (s .args .blocks .now) (26 * s .args .group + s .args .column)
+    let taken = part-is (s .args .candidates .now) (s .args .blocks .now) (15 * s .args .group + s .args .column)
     (c .before .before .before .before .wide .ensures) (c .before .before .wide2 .ensures) in (
       (rw taken at (c .among .ensures .0)) ∙ by-block (s .args .word .now) (s .args .group) (s .args .column) _ (s .pre .1 .1) (index .block),
       c .among .ensures .1,
