@@ -15,3 +15,4 @@ pub mod StepLaws
 pub mod LengthLaws
 pub mod WordsLaws
 pub mod Demand2
+pub mod Settled

@@ -5,6 +5,7 @@ use mathlib.Core.Path.{_≡_, refl, sym, ap₂, _∙_}
 use mathlib.Core.Bool.{cond}
 use lib.Dec.{eqb}
 use mathlib.Core.List.{List}
+use Rattle.paper.specs.Settled.{settled}
 use Rattle.paper.specs.Words.{outcome}
 use Rattle.words.specs.declared.Stemmed.{Stemmed}
 use Rattle.words.specs.declared.Stemmed.the-variants.{Done, WrongLength, OtherByte, Outgrown}
@@ -44,9 +45,9 @@ answer-told a b e f = sym (told-back a) ∙ ap₂ told e f ∙ told-back b
 
 -- any two outcomes that the contract allows are equal
 pub gives-one :
-    (word : List ℕ) (a b : Stemmed) (after after′ : List ℕ)
-    → Gives word a after
-    → Gives word b after′
-    → (a ≡ b) × (after ≡ after′)
-gives-one word a b after after′ g h =
-    (answer-told a b (g .number ∙ sym (h .number)) (g .value ∙ sym (h .value)), g .place ∙ sym (h .place))
+    (word : List ℕ) (a b : Stemmed) (after-a after-b : List ℕ)
+    → Gives word a after-a
+    → Gives word b after-b
+    → (a ≡ b) × (after-a ≡ after-b)
+gives-one word a b after-a after-b g h =
+    (answer-told a b (settled (g .number) (h .number)) (settled (g .value) (h .value)), settled (g .place) (h .place))
