@@ -1,7 +1,6 @@
--- A host can take the numbers of a call out of the one that is returned, as `include/lunarbugle.h` does; and any two outcomes
--- that an entry's contract allows are equal. Assumes nothing.
+-- A host can take the numbers of a call out of the one that is returned, as `include/lunarbugle.h` does. Assumes nothing.
 use Prim.Native.Nat.{ℕ, _/_, _%_, _^_}
-use mathlib.Core.Path.{_≡_, sym, _∙_}
+use mathlib.Core.Path.{_≡_}
 use mathlib.Core.List.{List}
 use native.Mathlib.Omega.{arith}
 use Rattle.paper.specs.Words.{outcome}
@@ -9,11 +8,6 @@ use Rattle.paper.specs.Demand2.{outcome-bounds}
 use Rattle.texts.specs.Texts.{outcome as textOutcome}
 use Rattle.texts.specs.OutcomeLaws.{number-within, counts-within}
 use Rattle.lunarbugle.specs.Packed.{packed, packedText}
-
--- An entry's contract gives the number that is returned and the lent bytes afterwards: that determines both.
-pub entry-determined : (number : ℕ) (place : List ℕ) (one two : ℕ) (after after′ : List ℕ)
-    → (one ≡ number) × (after ≡ place) → (two ≡ number) × (after′ ≡ place) → (one ≡ two) × (after ≡ after′)
-entry-determined number place one two after after′ g h = (g .0 ∙ sym (h .0), g .1 ∙ sym (h .1))
 
 -- Of a word, and of a text.
 

@@ -129,17 +129,17 @@ module _ {sheet table : List ℕ} {at root next rules count : ℕ} (state : Goin
         room = state .room;
       }
 
-  pub going-rule : {s1 s2 : ℕ} → RuleNext (state .holds) s1 s2 → (table′ : List ℕ) (count′ : ℕ)
-      → table′ ≡ note (rules + 1) (enter (inward (take s1 (drop (at + 8) sheet))) (laying table count root)) .table
-      → count′ ≡ enter (inward (take s1 (drop (at + 8) sheet))) (laying table count root) .count
-      → Going sheet table′ (at + (8 + s1 + s2)) root next (rules + 1) count′
-  going-rule found table′ count′ t c =
+  pub going-rule : {s1 s2 : ℕ} → RuleNext (state .holds) s1 s2 → (table-then : List ℕ) (count-then : ℕ)
+      → table-then ≡ note (rules + 1) (enter (inward (take s1 (drop (at + 8) sheet))) (laying table count root)) .table
+      → count-then ≡ enter (inward (take s1 (drop (at + 8) sheet))) (laying table count root) .count
+      → Going sheet table-then (at + (8 + s1 + s2)) root next (rules + 1) count-then
+  going-rule found table-then count-then t c =
       let left = ends-rule root next (state .list) (state .more) (found .one) (found .rules-then) (found .rule-first) in
       let midway = subst (Midway (groupsOf sheet) table count rules) left (state .midway) in
       let stepped =
       next-rule (groupsOf sheet) table count rules root (found .one .ending) (endsLeft root next (found .rules-then)
       (state .more)) midway (state .root-in)
-      (state .room) table′ count′ (rules + 1) (rw (found .ending-here, add-one rules) at t) (rw (found .ending-here) at c) (add-one rules) in
+      (state .room) table-then count-then (rules + 1) (rw (found .ending-here, add-one rules) at t) (rw (found .ending-here) at c) (add-one rules) in
       record {
         list = found .rules-then;
         more = state .more;

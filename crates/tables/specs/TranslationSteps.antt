@@ -92,11 +92,11 @@ module _ (all : List Group) (table : List ℕ) (count rules-so-far group : ℕ) 
       ∙ note-length 0 (after-entering .more) (midway .rules) (node group ending) (enter (inward ending) start) (after-entering .standing)
       ∙ after-entering .same-length
 
-  pub next-rule : (table′ : List ℕ) (count′ rules′ : ℕ) → table′ ≡ note (suc rules-so-far) (enter (inward ending) start) .table
-      → count′ ≡ enter (inward ending) start .count → rules′ ≡ suc rules-so-far
-      → Midway all table′ count′ rules′ left × (length table′ ≡ length table)
+  pub next-rule : (table-then : List ℕ) (count-then rules-then : ℕ) → table-then ≡ note (suc rules-so-far) (enter (inward ending) start) .table
+      → count-then ≡ enter (inward ending) start .count → rules-then ≡ suc rules-so-far
+      → Midway all table-then count-then rules-then left × (length table-then ≡ length table)
   unfolding note
-  next-rule table′ count′ rules′ t c r =
+  next-rule table-then count-then rules-then t c r =
       let end = node group ending in
       let noted = standing-noted 0 (after-entering .more) (midway .rules) end (enter (inward ending) start) (after-entering .standing) in
       let behind = added-extends nodes (way group ending) in

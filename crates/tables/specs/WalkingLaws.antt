@@ -82,18 +82,18 @@ module _ {table sheet first : List ℕ} {at next rules : ℕ} {opened : Bool} {w
     abbrev own : Group
     own = record { gate = found .gate-then; rules = found .rules-then }
 
-    go-on : (word′ : List ℕ) (opened′ : Bool)
+    go-on : (word-then : List ℕ) (opened-then : Bool)
         → walk table (length first) next (rules + 1) (state .more) opened word
         ≡ walk table (length first) (suc next) (rules + 1 + length (found .rules-then))
-        (found .groups-then) opened′ word′
-        → Walking table sheet first (at + 6) (next + 1) rules opened′ word′
-    go-on word′ opened′ e =
+        (found .groups-then) opened-then word-then
+        → Walking table sheet first (at + 6) (next + 1) rules opened-then word-then
+    go-on word-then opened-then e =
         record {
           list = found .rules-then;
           more = found .groups-then;
           holds = found .holds;
           decides = ap (λ (n : ℕ). walk table (length first) n (rules + 1 + length (found .rules-then))
-              (found .groups-then) opened′ word′) (add-one next) ∙ sym e ∙ from-here;
+              (found .groups-then) opened-then word-then) (add-one next) ∙ sym e ∙ from-here;
         }
 
     pub walking-skip : (eqb number 0 || opened) ≡ false → Walking table sheet first (at + 6) (next + 1) rules false word
@@ -101,19 +101,19 @@ module _ {table sheet first : List ℕ} {at next rules : ℕ} {opened : Bool} {w
         go-on word false (walk-skip table (length first) next (rules + 1) (state .more) own
         (found .groups-then) opened word (found .group-first) (gated false t))
 
-    module _ (after : List ℕ) (size : ℕ) (opened′ fits : Bool) (t : (eqb number 0 || opened) ≡ true)
+    module _ (after : List ℕ) (size : ℕ) (opened-then fits : Bool) (t : (eqb number 0 || opened) ≡ true)
         (stepped : Stepped (walkGroup table next (rules + 1) word (rulesOf (restAt sheet (at + 6) (next + 1) rules)))
-        (length first) after size opened′ fits) where
-      step-own : Stepped (walkGroup table next (rules + 1) word (found .rules-then)) (length first) after size opened′ fits
+        (length first) after size opened-then fits) where
+      step-own : Stepped (walkGroup table next (rules + 1) word (found .rules-then)) (length first) after size opened-then fits
       step-own = subst (λ (list : List Rule). Stepped (walkGroup table next (rules + 1) word list)
-          (length first) after size opened′ fits) rules-here stepped
+          (length first) after size opened-then fits) rules-here stepped
 
-      pub walking-step : fits ≡ true → Walking table sheet first (at + 6) (next + 1) rules opened′ (take size after)
+      pub walking-step : fits ≡ true → Walking table sheet first (at + 6) (next + 1) rules opened-then (take size after)
       walking-step f =
           let left = step-own .letters f in
           let run = walk-run table (length first) next (rules + 1) (state .more) own (found .groups-then) opened word
           (found .group-first) (gated true t) (sym (step-own .fits-is) ∙ f) in
-          go-on (take size after) opened′ (rw (left .0, left .2) run)
+          go-on (take size after) opened-then (rw (left .0, left .2) run)
 
       pub walking-outgrown : fits ≡ false → outgrown ≡ walkWord table (groupsOf sheet) first
       walking-outgrown f =

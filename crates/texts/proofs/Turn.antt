@@ -111,10 +111,10 @@ module _ (rule : List ℕ → Reading) where
   whole-done text at stemmed left past =
       rw (take-all at text past, drop-of-length-le text past) (then-nothing (record { text = text; stemmed = stemmed; left = left }))
 
-  same : {one two : List ℕ} {stemmed stemmed′ left left′ : ℕ} {rest rest′ : List ℕ}
-      → one ≡ two → stemmed ≡ stemmed′ → left ≡ left′ → rest ≡ rest′
+  same : {one two : List ℕ} {stemmed stemmed-then left left-then : ℕ} {rest rest-then : List ℕ}
+      → one ≡ two → stemmed ≡ stemmed-then → left ≡ left-then → rest ≡ rest-then
       → record { text = one; stemmed = stemmed; left = left } then runText rule rest
-      ≡ record { text = two; stemmed = stemmed′; left = left′ } then runText rule rest′
+      ≡ record { text = two; stemmed = stemmed-then; left = left-then } then runText rule rest-then
   same p q r s = λ i. record { text = p i; stemmed = q i; left = r i } then runText rule (s i)
 
   module _ {text : List ℕ} {at start end : ℕ} (found : Found text at start end) (stemmed left : ℕ) where

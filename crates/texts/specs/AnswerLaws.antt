@@ -1,13 +1,14 @@
 -- The answer and the bytes of a call are determined by the text that was lent: of the text run and of the next word any two
 -- outcomes that the contract allows are equal. Assumes nothing.
 use Prim.Native.Nat.{ℕ, _≤_, _<_}
-use mathlib.Core.Path.{_≡_, refl, sym, ap₂, _∙_}
+use mathlib.Core.Path.{_≡_, refl, ap₂}
 use mathlib.Core.List.{List}
 use native.Mathlib.Omega.{arith}
 use denote.Ref.{RefT, ptr, now}
 use lib.ListN.{length}
+use Rattle.paper.specs.Settled.{settled}
 use Rattle.paper.specs.Words.{stem}
-use Rattle.texts.specs.Next.{nextWordAt, NextWord}
+use Rattle.texts.specs.Next.{NextWord}
 use Rattle.texts.specs.Texts.{runText}
 use Rattle.texts.specs.OutcomeLaws.{refused-over, finished-within}
 use Rattle.texts.specs.Answer.{Gives}
@@ -36,20 +37,16 @@ gives-done text after stemmed left short ran =
       bytes = rw (finished-within text short, ran);
     }
 
--- Any two outcomes that the contracts allow are equal.
+-- Any two outcomes that the contracts allow are equal. That of `next_word_at` is an equation.
 
-pub run-determined : (text : List ℕ) (one two : TextRun) (after after′ : List ℕ)
-    → Gives text one after → Gives text two after′ → (one ≡ two) × (after ≡ after′)
-run-determined text (Done stemmed left) (Done stemmed′ left′) after after′ g h =
-    (ap₂ Done (g .stemmed ∙ sym (h .stemmed)) (g .left ∙ sym (h .left)), g .bytes ∙ sym (h .bytes))
-run-determined text (Done stemmed left) TooLong after after′ g h = absurd (omega (arith, g .number, h .number))
-run-determined text TooLong (Done stemmed left) after after′ g h = absurd (omega (arith, g .number, h .number))
-run-determined text TooLong TooLong after after′ g h = (refl, g .bytes ∙ sym (h .bytes))
-
-pub next-at-determined : (text : List ℕ) (from one two : ℕ)
-    → one ≡ nextWordAt text from → two ≡ nextWordAt text from → one ≡ two
-next-at-determined text from one two p q = p ∙ sym q
+pub run-determined : (text : List ℕ) (one two : TextRun) (after other-after : List ℕ)
+    → Gives text one after → Gives text two other-after → (one ≡ two) × (after ≡ other-after)
+run-determined text (Done stemmed left) (Done other-stemmed other-left) after other-after g h =
+    (ap₂ Done (settled (g .stemmed) (h .stemmed)) (settled (g .left) (h .left)), settled (g .bytes) (h .bytes))
+run-determined text (Done stemmed left) TooLong after other-after g h = absurd (omega (arith, g .number, h .number))
+run-determined text TooLong (Done stemmed left) after other-after g h = absurd (omega (arith, g .number, h .number))
+run-determined text TooLong TooLong after other-after g h = (refl, settled (g .bytes) (h .bytes))
 
 pub next-determined : (text : RefT (List ℕ)) (from : ℕ) (one two : RefT (List ℕ))
     → NextWord text from one → NextWord text from two → (now one ≡ now two) × (ptr one ≡ ptr two)
-next-determined text from one two p q = (p .letters ∙ sym (q .letters), p .place ∙ sym (q .place))
+next-determined text from one two p q = (settled (p .letters) (q .letters), settled (p .place) (q .place))
