@@ -1,4 +1,4 @@
--- The answers, one by one. Assumes nothing.
+-- `tables::run` meets its contract: the answers, one by one. Assumes nothing.
 use Prim.Native.Nat.{_*_, _≤_}
 use mathlib.Core.Path.{_≡_, refl, sym, _∙_}
 use native.Mathlib.Omega.{arith}

@@ -1,4 +1,4 @@
--- The answers, one by one. Assumes nothing.
+-- `tables::translate` meets its contract: the answers, one by one. Assumes nothing.
 use Prim.Native.Nat.{ℕ, _*_, _<_}
 use mathlib.Core.Path.{_≡_, sym, ap, _∙_}
 use native.Mathlib.Omega.{arith}

@@ -1,4 +1,5 @@
--- The end of a chain. The loop's invariant: from here on the chain ends where it does from its start. Assumes nothing.
+-- `tables::layings::chain_end` meets its contract: the end of a chain. The loop's invariant: from here on the chain ends
+-- where it does from its start. Assumes nothing.
 use Prim.Native.Nat.{_<_}
 use mathlib.Core.Path.{_≡_, refl, sym, _∙_}
 use native.Mathlib.Omega.{arith}

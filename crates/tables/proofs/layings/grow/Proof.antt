@@ -1,4 +1,4 @@
--- One letter laid. Assumes nothing.
+-- `tables::layings::grow` meets its contract: one letter laid. Assumes nothing.
 use Prim.Native.Nat.{_*_}
 use mathlib.Core.Path.{sym}
 use native.Mathlib.Omega.{arith}

@@ -1,4 +1,4 @@
--- Five stores, one after another. Assumes nothing.
+-- `tables::layings::hang` meets its contract: five stores, one after another. Assumes nothing.
 use Rattle.tables.specs.PutLaws.{hung-stores}
 use borrow.Author.Needs.{needs}
 use Rattle.tables.proofs.layings.hang.Statement.{statement}

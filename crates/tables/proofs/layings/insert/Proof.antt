@@ -1,5 +1,5 @@
--- One rule laid. The loop's invariant: what is still to be entered, entered here, gives what the whole ending gives at the
--- start. Assumes nothing.
+-- `tables::layings::insert` meets its contract: one rule laid. The loop's invariant: what is still to be entered, entered
+-- here, gives what the whole ending gives at the start. Assumes nothing.
 use Prim.Native.Nat.{_*_, _<_, _≤_}
 use mathlib.Core.Path.{_≡_, refl, sym, ap, _∙_}
 use native.Mathlib.Omega.{arith}

@@ -1,4 +1,4 @@
--- A store, or nothing beyond the table's end. Assumes nothing.
+-- `tables::layings::put` meets its contract: a store, or nothing beyond the table's end. Assumes nothing.
 use mathlib.Core.Path.{sym}
 use lib.Seq.{set-out}
 use borrow.Author.Needs.{needs}

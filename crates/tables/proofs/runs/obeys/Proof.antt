@@ -1,4 +1,4 @@
--- The tests, one by one. Assumes nothing.
+-- `tables::runs::obeys` meets its contract: the tests, one by one. Assumes nothing.
 use Prim.Native.Nat.{_+_, _-_}
 use mathlib.Core.Path.{_≡_, sym}
 use native.Mathlib.Omega.{arith}

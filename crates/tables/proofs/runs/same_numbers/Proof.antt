@@ -1,4 +1,4 @@
--- The loop's invariant: what is left decides. Assumes nothing.
+-- `tables::runs::same_numbers` meets its contract. The loop's invariant: what is left decides. Assumes nothing.
 use Prim.Native.Nat.{_≤_, _-_}
 use mathlib.Core.Path.{_≡_, refl, sym, _∙_}
 use native.Mathlib.Omega.{arith}

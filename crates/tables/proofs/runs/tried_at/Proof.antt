@@ -1,4 +1,4 @@
--- The loop's invariant: the rules that are left decide. Assumes nothing.
+-- `tables::runs::tried_at` meets its contract. The loop's invariant: the rules that are left decide. Assumes nothing.
 use Prim.Native.Nat.{_-_, _≤_, _<_}
 use mathlib.Core.Path.{sym, _∙_}
 use native.Mathlib.Omega.{arith}

@@ -1,4 +1,4 @@
--- What a group leaves, case by case. Assumes nothing.
+-- `tables::runs::walk_group` meets its contract: what a group leaves, case by case. Assumes nothing.
 use Prim.Native.Nat.{_+_, _-_}
 use mathlib.Core.Path.{_≡_, sym}
 use native.Mathlib.Omega.{arith}

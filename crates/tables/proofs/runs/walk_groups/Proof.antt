@@ -1,4 +1,5 @@
--- The loop's invariant: the groups that are left decide, on the letters that are left. Assumes nothing.
+-- `tables::runs::walk_groups` meets its contract. The loop's invariant: the groups that are left decide, on the letters that
+-- are left. Assumes nothing.
 use Prim.Native.Nat.{_-_, _≤_}
 use mathlib.Core.Path.{_≡_, refl, sym, _∙_}
 use native.Mathlib.Omega.{arith}

@@ -1,4 +1,5 @@
--- The loop's invariant: the numbers passed are 0, and the others are as they came. Assumes nothing.
+-- `tables::sheet::clear` meets its contract. The loop's invariant: the numbers passed are 0, and the others are as they
+-- came. Assumes nothing.
 use Prim.Native.Nat.{ℕ, _≤_, _-_}
 use mathlib.Core.Path.{_≡_, refl, _∙_}
 use mathlib.Core.List.{List, _++_, append-nil}

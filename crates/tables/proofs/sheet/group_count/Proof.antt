@@ -1,4 +1,5 @@
--- The loop's invariant: the groups so far, and those that the rest of the sheet holds, are all. Assumes nothing.
+-- `tables::sheet::group_count` meets its contract. The loop's invariant: the groups so far, and those that the rest of the
+-- sheet holds, are all. Assumes nothing.
 use Prim.Native.Nat.{_≤_, _-_}
 use mathlib.Core.Path.{sym, _∙_}
 use native.Mathlib.Omega.{arith}

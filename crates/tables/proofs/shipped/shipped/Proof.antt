@@ -1,4 +1,5 @@
--- The constant is the shipped rules' table: one computed test over all its numbers. Assumes nothing.
+-- `tables::shipped::shipped` meets its contract: the constant is the shipped rules' table: one computed test over all its
+-- numbers. Assumes nothing.
 use mathlib.Core.Path.{refl}
 use Rattle.paper.specs.Shipped.{shipped}
 use Rattle.tables.specs.Layout.{computed}

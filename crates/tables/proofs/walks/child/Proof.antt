@@ -1,5 +1,5 @@
--- The child of a letter. The loop's invariant: what the chain holds from here on is what it holds from its start. Assumes
--- nothing.
+-- `tables::walks::child` meets its contract: the child of a letter. The loop's invariant: what the chain holds from here on
+-- is what it holds from its start. Assumes nothing.
 use Prim.Native.Nat.{_<_}
 use mathlib.Core.Path.{_≡_, sym, _∙_}
 use lib.Dec.{lit<}

@@ -1,5 +1,5 @@
--- The deepest rule. The loop's invariant: the whole walk finds what the rest of it finds, or else what was found so far.
--- Assumes nothing.
+-- `tables::walks::deepest` meets its contract: the deepest rule. The loop's invariant: the whole walk finds what the rest of
+-- it finds, or else what was found so far. Assumes nothing.
 use Prim.Native.Nat.{_<_, _≤_}
 use mathlib.Core.Path.{_≡_, sym, _∙_}
 use native.Mathlib.Omega.{arith}

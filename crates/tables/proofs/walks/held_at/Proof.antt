@@ -1,4 +1,5 @@
--- The rule at the end of a path. The loop's invariant: the letters passed lead to this node. Assumes nothing.
+-- `tables::walks::held_at` meets its contract: the rule at the end of a path. The loop's invariant: the letters passed lead
+-- to this node. Assumes nothing.
 use Prim.Native.Nat.{_<_, _≤_, _-_}
 use mathlib.Core.Path.{_≡_, sym, _∙_}
 use mathlib.Core.Option.{some}

@@ -1,4 +1,4 @@
--- A number of the table, or 0 beyond its end. Assumes nothing.
+-- `tables::walks::number_at` meets its contract: a number of the table, or 0 beyond its end. Assumes nothing.
 use mathlib.Core.Path.{refl, sym}
 use native.Mathlib.Omega.{arith}
 use lib.Dec.{lit<}

@@ -1,4 +1,4 @@
--- The answers, one by one. Assumes nothing.
+-- `tables::word_runs::word_run` meets its contract: the answers, one by one. Assumes nothing.
 use mathlib.Core.Path.{refl, sym}
 use native.Mathlib.Omega.{arith}
 use lib.ListN.{length}

@@ -1,4 +1,4 @@
--- `words::column_of` meets its contract: by the arm of the last letter, or by none of them. Assumes nothing.
+-- `words::choosing::column_of` meets its contract: by the arm of the last letter, or by none of them. Assumes nothing.
 use Prim.Native.Nat.{ℕ, _-_, _<_}
 use borrow.Author.Needs.{needs}
 use borrow.Author.Tests.{eqb-true, ne-eqb}
@@ -12,8 +12,8 @@ use Rattle.paper.specs.TestLaws.{or-cases}
 use Rattle.paper.specs.Letters.{letters, among, letterAt, inward}
 use Rattle.paper.specs.LettersLaws.{letterAt-index}
 use Rattle.words.specs.Tables.{columns, Column}
-use Rattle.words.proofs.column_of.Statement.{statement}
-use Rattle.words.proofs.column_of.Tie as tie
+use Rattle.words.proofs.choosing.column_of.Statement.{statement}
+use Rattle.words.proofs.choosing.column_of.Tie as tie
 
 last-is : (word : List ℕ) → 0 < length word → letterAt 0 word ≡ getD word (length word - 1) 0
 last-is word h = letterAt-index word 0 h ∙ ap (λ (k : ℕ). getD word k 0) (omega arith)

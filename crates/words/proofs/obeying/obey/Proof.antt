@@ -1,4 +1,4 @@
--- `words::obey` meets its contract. Assumes nothing.
+-- `words::obeying::obey` meets its contract. Assumes nothing.
 use Prim.Native.Nat.{ℕ, _-_, _≤_}
 use borrow.Author.Needs.{needs}
 use borrow.Author.Tests.{eqb-true}
@@ -11,8 +11,8 @@ use lib.ListN.{length, take}
 use lib.Seq.{length-take-le, take-take}
 use Rattle.paper.specs.Groups.{Action, replace, single-letter, act}
 use Rattle.words.specs.Tables.{ruleAt, written, isSingle, replacementLetters, replacementStarts}
-use Rattle.words.proofs.obey.Statement.{statement}
-use Rattle.words.proofs.obey.Tie as tie
+use Rattle.words.proofs.obeying.obey.Statement.{statement}
+use Rattle.words.proofs.obeying.obey.Tie as tie
 
 act-single :
     (action : Action) (word : List ℕ) (part : ℕ)

@@ -1,9 +1,9 @@
--- `words::opens` meets its contract: its table is the column of the list. Assumes nothing.
+-- `words::obeying::opens` meets its contract: its table is the column of the list. Assumes nothing.
 use borrow.Author.Needs.{needs}
 use Rattle.words.specs.Tables.{openings}
 use Rattle.words.proofs.Columns.{opens-at}
-use Rattle.words.proofs.opens.Statement.{statement}
-use Rattle.words.proofs.opens.Tie as tie
+use Rattle.words.proofs.obeying.opens.Statement.{statement}
+use Rattle.words.proofs.obeying.opens.Tie as tie
 
 array-read-result : tie.Need-array-read-result
 array-read-result c = search needs

@@ -1,4 +1,4 @@
--- `words::among` meets its contract: a rule that does not end the word is passed by, and the first that ends it has the
+-- `words::choosing::among` meets its contract: a rule that does not end the word is passed by, and the first that ends it has the
 -- longest ending. Assumes nothing.
 use Prim.Native.Nat.{ℕ, zero, suc, _+_, _-_, _≤_, _<_}
 use borrow.Author.Needs.{needs}
@@ -14,8 +14,8 @@ use Rattle.paper.specs.LongerFirst.{longerFirst, first-fits, passed-by, longerF
 use Rattle.words.specs.Tables.{ruleAt, picked, AllBelow, EndsAt}
 use Rattle.words.proofs.Candidates.{below-at}
 use Rattle.words.proofs.InTurn.{from-place, here-and-next}
-use Rattle.words.proofs.among.Statement.{statement}
-use Rattle.words.proofs.among.Tie as tie
+use Rattle.words.proofs.choosing.among.Statement.{statement}
+use Rattle.words.proofs.choosing.among.Tie as tie
 
 -- ══ The candidates from a place on, as they are lent ══
 

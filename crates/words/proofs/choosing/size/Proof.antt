@@ -1,9 +1,9 @@
--- `words::size` meets its contract. Assumes nothing.
+-- `words::choosing::size` meets its contract. Assumes nothing.
 use borrow.Author.Needs.{needs}
 use native.Mathlib.Omega.{arith}
 use Rattle.words.proofs.Columns.{ending-row}
-use Rattle.words.proofs.size.Statement.{statement}
-use Rattle.words.proofs.size.Tie as tie
+use Rattle.words.proofs.choosing.size.Statement.{statement}
+use Rattle.words.proofs.choosing.size.Tie as tie
 
 add-wide : tie.Need-add-wide
 add-wide c = search needs

@@ -1,9 +1,9 @@
--- `words::single` meets its contract: its table is the column of the list. Assumes nothing.
+-- `words::obeying::single` meets its contract: its table is the column of the list. Assumes nothing.
 use borrow.Author.Needs.{needs}
 use Rattle.words.specs.Tables.{singles}
 use Rattle.words.proofs.Columns.{single-at}
-use Rattle.words.proofs.single.Statement.{statement}
-use Rattle.words.proofs.single.Tie as tie
+use Rattle.words.proofs.obeying.single.Statement.{statement}
+use Rattle.words.proofs.obeying.single.Tie as tie
 
 array-read-result : tie.Need-array-read-result
 array-read-result c = search needs

@@ -1,4 +1,4 @@
--- `words::replace` meets its contract: the part, then the letters that were put behind it. Assumes nothing.
+-- `words::obeying::replace` meets its contract: the part, then the letters that were put behind it. Assumes nothing.
 use Prim.Native.Nat.{ℕ, _+_, _-_, _≤_}
 use borrow.Author.Needs.{needs}
 use native.Mathlib.Omega.{arith}
@@ -8,8 +8,8 @@ use lib.ListN.{length, take, drop}
 use Rattle.places.specs.Put.{putAt, put-behind}
 use Rattle.words.specs.Tables.{ruleAt, written}
 use Rattle.words.proofs.Columns.{replacement-row}
-use Rattle.words.proofs.replace.Statement.{statement}
-use Rattle.words.proofs.replace.Tie as tie
+use Rattle.words.proofs.obeying.replace.Statement.{statement}
+use Rattle.words.proofs.obeying.replace.Tie as tie
 
 -- what was put behind a part follows it
 follows :

@@ -1,11 +1,11 @@
--- `words::ends` meets its contract. Assumes nothing.
+-- `words::choosing::ends` meets its contract. Assumes nothing.
 use borrow.Author.Needs.{needs}
 use native.Mathlib.Omega.{arith}
 use mathlib.Core.Path.{ap}
 use lib.ListN.{length}
 use Rattle.words.proofs.Columns.{ending-row}
-use Rattle.words.proofs.ends.Statement.{statement}
-use Rattle.words.proofs.ends.Tie as tie
+use Rattle.words.proofs.choosing.ends.Statement.{statement}
+use Rattle.words.proofs.choosing.ends.Tie as tie
 
 shared-slice-read-wide : tie.Need-shared-slice-read-wide
 shared-slice-read-wide c = let s = c .before .before .before .before in omega (arith, ending-row _ _ (s .pre .0) (s .pre .1 .1) .known)

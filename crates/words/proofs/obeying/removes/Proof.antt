@@ -1,4 +1,4 @@
--- `words::removes` meets its contract: a replacement is empty exactly where it ends where it starts. Assumes nothing.
+-- `words::obeying::removes` meets its contract: a replacement is empty exactly where it ends where it starts. Assumes nothing.
 use Prim.Native.Nat.{ℕ, _+_}
 use borrow.Author.Needs.{needs}
 use native.Mathlib.Omega.{arith}
@@ -8,8 +8,8 @@ use borrow.Author.Tests.{eq-eqb, eqb-true}
 use Rattle.paper.specs.TestLaws.{test-ext}
 use Rattle.words.specs.Tables.{replacementLetters}
 use Rattle.words.proofs.Columns.{replacement-row}
-use Rattle.words.proofs.removes.Statement.{statement}
-use Rattle.words.proofs.removes.Tie as tie
+use Rattle.words.proofs.obeying.removes.Statement.{statement}
+use Rattle.words.proofs.obeying.removes.Tie as tie
 
 same-end : (from size to : ℕ) → from + size ≡ to → eqb to from ≡ eqb size 0
 same-end from size to e =

@@ -1,4 +1,4 @@
--- `words::choose` meets its contract: the block of the word's last letter holds every rule of the group that can end the
+-- `words::choosing::choose` meets its contract: the block of the word's last letter holds every rule of the group that can end the
 -- word. Assumes nothing.
 use Prim.Native.Nat.{ℕ, _+_, _-_, _*_}
 use borrow.Author.Needs.{needs}
@@ -8,8 +8,8 @@ use mathlib.Core.List.{List}
 use lib.ListN.{take, drop, getD}
 use Rattle.words.proofs.Candidates.{few, indexed, by-block, block-ordered}
 use Rattle.words.proofs.Columns.{rule-count}
-use Rattle.words.proofs.choose.Statement.{statement}
-use Rattle.words.proofs.choose.Tie as tie
+use Rattle.words.proofs.choosing.choose.Statement.{statement}
+use Rattle.words.proofs.choosing.choose.Tie as tie
 
 -- the part of the candidates that is lent
 part-is :

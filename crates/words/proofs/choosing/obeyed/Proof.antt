@@ -1,4 +1,4 @@
--- `words::obeyed` meets its contract: only the rules whose ending has so many letters and ends the word are looked at, and the
+-- `words::choosing::obeyed` meets its contract: only the rules whose ending has so many letters and ends the word are looked at, and the
 -- first of them whose condition holds is the first that is obeyed. Assumes nothing.
 use Prim.Native.Nat.{ℕ, _-_, _≤_, _<_}
 use borrow.Author.Needs.{needs}
@@ -17,8 +17,8 @@ use Rattle.words.specs.Tables.{ruleAt, picked, digit, conditionDigits, E
 use Rattle.words.proofs.Candidates.{below-at}
 use Rattle.words.proofs.Columns.{condition-at, condition-count}
 use Rattle.words.proofs.InTurn.{from-place, first-here, first-next}
-use Rattle.words.proofs.obeyed.Statement.{statement}
-use Rattle.words.proofs.obeyed.Tie as tie
+use Rattle.words.proofs.choosing.obeyed.Statement.{statement}
+use Rattle.words.proofs.choosing.obeyed.Tie as tie
 
 condition-of :
     (conditions : List ℕ) (rule : ℕ)

@@ -1,4 +1,4 @@
--- `words::next_same` meets its contract: no rule passed may be obeyed, since its ending has another size or does not end the
+-- `words::choosing::next_same` meets its contract: no rule passed may be obeyed, since its ending has another size or does not end the
 -- word. Assumes nothing.
 use Prim.Native.Nat.{_-_, _≤_}
 use borrow.Author.Needs.{needs}
@@ -12,8 +12,8 @@ use Rattle.paper.specs.ReadingLaws.{obeys, obeys-size, obeys-ends}
 use Rattle.words.specs.Tables.{ruleAt}
 use Rattle.words.proofs.Candidates.{below-at}
 use Rattle.words.proofs.InTurn.{from-place, first-next}
-use Rattle.words.proofs.next_same.Statement.{statement}
-use Rattle.words.proofs.next_same.Tie as tie
+use Rattle.words.proofs.choosing.next_same.Statement.{statement}
+use Rattle.words.proofs.choosing.next_same.Tie as tie
 
 abbrev Inv-loop : tie.InvT-loop
 Inv-loop word n from candidates endings starts i₀ i =
