@@ -26,17 +26,7 @@ pub enum Record {
 fn has_other(bytes: &[u8]) -> bool
     ensures { λ r. ⌜ r ≡ outside (now (bytes .entry)) ⌝ }
 {
-    let mut i = 0;
-    while i < bytes.len() {
-        if bytes[i] < 97 {
-            return true;
-        }
-        if bytes[i] > 122 {
-            return true;
-        }
-        i += 1;
-    }
-    false
+    letters::first_other(bytes) < bytes.len()
 }
 
 fn group_in(body: &[u8]) -> Record

@@ -6,7 +6,7 @@ use native.Mathlib.Omega.{arith}
 use mathlib.Core.Path.{_≡_, _∙_}
 use mathlib.Core.List.{List}
 use lib.ListN.{take, drop, getD}
-use Rattle.words.proofs.Candidates.{few, indexed, by-block, block-ordered}
+use Rattle.words.proofs.Candidates.{few, Indexed, indexed, by-block, block-ordered}
 use Rattle.words.proofs.Columns.{rule-count}
 use Rattle.words.proofs.choosing.choose.Statement.{statement}
 use Rattle.words.proofs.choosing.choose.Tie as tie
@@ -19,6 +19,11 @@ part-is :
     → take (to - from) (drop from numbers-of) ≡ few numbers-of places k
 part-is numbers-of places k from-is to-is = rw (from-is, to-is)
 
+-- the part of the index for the group and the column
+index-of : (s : tie.Start) → Indexed (s .args .candidates .now) (s .args .blocks .now) (s .args .group) (s .args .column)
+index-of s =
+    indexed (s .args .candidates .now) (s .args .blocks .now) (s .args .group) (s .args .column) (s .pre .0 .1 .0) (s .pre .0 .1 .1) (s .pre .0 .0) (s .pre .1 .1 .0)
+
 mul-at : tie.Need-mul-at
 mul-at c = search needs
 
@@ -27,8 +32,7 @@ add-at c = search needs
 
 shared-slice-read-wide : tie.Need-shared-slice-read-wide
 shared-slice-read-wide c =
-    let s = c .before .before .before .before .before .before .before in
-    omega (arith, indexed (s .args .candidates .now) (s .args .blocks .now) (s .args .group) (s .args .column) (s .pre .0 .1 .0) (s .pre .0 .1 .1) (s .pre .0 .0) (s .pre .1 .1 .0) .known)
+    omega (arith, index-of (c .before .before .before .before .before .before .before) .known)
 
 wide-requires : tie.Need-wide-requires
 wide-requires c κs = search needs
@@ -38,31 +42,27 @@ add-wide c = search needs
 
 shared-slice-read-wide-2 : tie.Need-shared-slice-read-wide-2
 shared-slice-read-wide-2 c =
-    let s = c .before .before .before .before .before .before .before .before .before in
-    omega (arith, indexed (s .args .candidates .now) (s .args .blocks .now) (s .args .group) (s .args .column) (s .pre .0 .1 .0) (s .pre .0 .1 .1) (s .pre .0 .0) (s .pre .1 .1 .0) .known)
+    omega (arith, index-of (c .before .before .before .before .before .before .before .before .before) .known)
 
 wide-requires-2 : tie.Need-wide-requires-2
 wide-requires-2 c κs = search needs
 
 sub-among : tie.Need-sub-among
 sub-among c =
-    let s = c .before .before .before .before .before .before .before .before .before .before in
-    omega (arith, indexed (s .args .candidates .now) (s .args .blocks .now) (s .args .group) (s .args .column) (s .pre .0 .1 .0) (s .pre .0 .1 .1) (s .pre .0 .0) (s .pre .1 .1 .0) .rising, c .wide2 .ensures, c .before .before .wide .ensures)
+    omega (arith, index-of (c .before .before .before .before .before .before .before .before .before .before) .rising, c .wide2 .ensures, c .before .before .wide .ensures)
 
 part-among-start : tie.Need-part-among-start
 part-among-start c =
-    let s = c .before .before .before .before .before .before .before .before .before .before in
-    omega (arith, indexed (s .args .candidates .now) (s .args .blocks .now) (s .args .group) (s .args .column) (s .pre .0 .1 .0) (s .pre .0 .1 .1) (s .pre .0 .0) (s .pre .1 .1 .0) .rising, c .wide2 .ensures, c .before .before .wide .ensures)
+    omega (arith, index-of (c .before .before .before .before .before .before .before .before .before .before) .rising, c .wide2 .ensures, c .before .before .wide .ensures)
 
 part-among-end : tie.Need-part-among-end
 part-among-end c =
-    let s = c .before .before .before .before .before .before .before .before .before .before in
-    omega (arith, indexed (s .args .candidates .now) (s .args .blocks .now) (s .args .group) (s .args .column) (s .pre .0 .1 .0) (s .pre .0 .1 .1) (s .pre .0 .0) (s .pre .1 .1 .0) .within, c .wide2 .ensures)
+    omega (arith, index-of (c .before .before .before .before .before .before .before .before .before .before) .within, c .wide2 .ensures)
 
 among-requires : tie.Need-among-requires
 among-requires c κs =
     let s = c .before .before .before .before .before .before .before .before .before .before .before in
-    let index = indexed (s .args .candidates .now) (s .args .blocks .now) (s .args .group) (s .args .column) (s .pre .0 .1 .0) (s .pre .0 .1 .1) (s .pre .0 .0) (s .pre .1 .1 .0) in
+    let index = index-of s in
     let taken = part-is (s .args .candidates .now) (s .args .blocks .now) (15 * s .args .group + s .args .column)
     (c .before .before .before .wide .ensures) (c .before .wide2 .ensures) in
     ((rw taken (rw rule-count at (index .block .known)), rw taken (block-ordered (s .args .group) (s .args .column) _ (index .block))), s .pre .1 .0)
@@ -70,7 +70,7 @@ among-requires c κs =
 returns : tie.Need-returns
 returns c =
     let s = c .before .before .before .before .before .before .before .before .before .before .before .before in
-    let index = indexed (s .args .candidates .now) (s .args .blocks .now) (s .args .group) (s .args .column) (s .pre .0 .1 .0) (s .pre .0 .1 .1) (s .pre .0 .0) (s .pre .1 .1 .0) in
+    let index = index-of s in
     let taken = part-is (s .args .candidates .now) (s .args .blocks .now) (15 * s .args .group + s .args .column)
     (c .before .before .before .before .wide .ensures) (c .before .before .wide2 .ensures) in (
       (rw taken at (c .among .ensures .0)) ∙ by-block (s .args .word .now) (s .args .group) (s .args .column) _ (s .pre .1 .1) (index .block),

@@ -7,7 +7,7 @@ use mathlib.Core.List.{List, _++_}
 use lib.ListN.{length, take, drop}
 use Rattle.places.specs.Put.{putAt, put-behind}
 use Rattle.words.specs.Tables.{ruleAt, written}
-use Rattle.words.proofs.Columns.{replacement-row}
+use Rattle.words.proofs.Columns.{Row, replacement-row}
 use Rattle.words.proofs.obeying.replace.Statement.{statement}
 use Rattle.words.proofs.obeying.replace.Tie as tie
 
@@ -20,12 +20,13 @@ follows :
     → take k after ≡ take part word ++ letters
 follows word after letters part k fits e n = rw (e, n) (put-behind word part letters fits)
 
+-- the row of the table for the rule
+row-of : (s : tie.Start) → Row (λ rule. written (rule .action)) (s .args .replacements .now) (s .args .starts .now) (s .args .rule)
+row-of s = replacement-row (s .args .rule) (s .args .replacements .now) (s .args .starts .now) (s .pre .0 .0) (s .pre .0 .1 .0) (s .pre .0 .1 .1)
+
 shared-slice-read-wide : tie.Need-shared-slice-read-wide
 shared-slice-read-wide c =
-    let s = c .before .before .before .before in
-    let row = replacement-row (s .args .rule) (s .args .replacements .now) (s .args .starts .now) (s .pre .0 .0)
-    (s .pre .0 .1 .0) (s .pre .0 .1 .1) in
-    omega (arith, row .known)
+    omega (arith, row-of (c .before .before .before .before) .known)
 
 wide-requires : tie.Need-wide-requires
 wide-requires c κs = search needs
@@ -35,10 +36,7 @@ add-wide c = search needs
 
 shared-slice-read-wide-2 : tie.Need-shared-slice-read-wide-2
 shared-slice-read-wide-2 c =
-    let s = c .before .before .before .before .before .before in
-    let row = replacement-row (s .args .rule) (s .args .replacements .now) (s .args .starts .now) (s .pre .0 .0)
-    (s .pre .0 .1 .0) (s .pre .0 .1 .1) in
-    omega (arith, row .known)
+    omega (arith, row-of (c .before .before .before .before .before .before) .known)
 
 wide-requires-2 : tie.Need-wide-requires-2
 wide-requires-2 c κs = search needs
@@ -46,22 +44,19 @@ wide-requires-2 c κs = search needs
 sub-put : tie.Need-sub-put
 sub-put c =
     let s = c .before .before .before .before .before .before .before .before in
-    let row = replacement-row (s .args .rule) (s .args .replacements .now) (s .args .starts .now) (s .pre .0 .0)
-    (s .pre .0 .1 .0) (s .pre .0 .1 .1) in
+    let row = row-of s in
     omega (arith, row .size, c .before .wide2 .ensures, c .before .before .before .wide .ensures)
 
 part-put-start : tie.Need-part-put-start
 part-put-start c =
     let s = c .before .before .before .before .before .before .before .before in
-    let row = replacement-row (s .args .rule) (s .args .replacements .now) (s .args .starts .now) (s .pre .0 .0)
-    (s .pre .0 .1 .0) (s .pre .0 .1 .1) in
+    let row = row-of s in
     omega (arith, row .size, c .before .wide2 .ensures, c .before .before .before .wide .ensures)
 
 part-put-end : tie.Need-part-put-end
 part-put-end c =
     let s = c .before .before .before .before .before .before .before .before in
-    let row = replacement-row (s .args .rule) (s .args .replacements .now) (s .args .starts .now) (s .pre .0 .0)
-    (s .pre .0 .1 .0) (s .pre .0 .1 .1) in
+    let row = row-of s in
     omega (arith, row .within, c .before .wide2 .ensures, c .before .before .before .wide .ensures)
 
 put-requires : tie.Need-put-requires
@@ -70,8 +65,7 @@ put-requires c κs = search needs
 sub-result : tie.Need-sub-result
 sub-result c =
     let s = c .before .before .before .before .before .before .before .before .before .before .before .before in
-    let row = replacement-row (s .args .rule) (s .args .replacements .now) (s .args .starts .now) (s .pre .0 .0)
-    (s .pre .0 .1 .0) (s .pre .0 .1 .1) in
+    let row = row-of s in
     omega (
       arith,
       row .size,
@@ -82,8 +76,7 @@ sub-result c =
 add-result : tie.Need-add-result
 add-result c =
     let s = c .before .before .before .before .before .before .before .before .before .before .before .before in
-    let row = replacement-row (s .args .rule) (s .args .replacements .now) (s .args .starts .now) (s .pre .0 .0)
-    (s .pre .0 .1 .0) (s .pre .0 .1 .1) in
+    let row = row-of s in
     omega (
       arith,
       row .size,
@@ -98,8 +91,7 @@ same-length c = search needs
 returns : tie.Need-returns
 returns c =
     let s = c .before .before .before .before .before .before .before .before .before .before .before .before in
-    let row = replacement-row (s .args .rule) (s .args .replacements .now) (s .args .starts .now) (s .pre .0 .0)
-    (s .pre .0 .1 .0) (s .pre .0 .1 .1) in
+    let row = row-of s in
     let letters : take (c .before .before .before .before .before .wide2 .result -
     c .before .before .before .before .before .before .before .wide .result) (drop
     (c .before .before .before .before .before .before .before .wide .result) (s .args .replacements .now))
