@@ -4,16 +4,16 @@ use Prim.Native.Nat.{ℕ, zero, suc, _+_, _-_, _≤_, _<_}
 use borrow.Author.Needs.{needs}
 use native.Mathlib.Omega.{arith}
 use mathlib.Core.Path.{_≡_, refl, sym, ap, _∙_}
-use mathlib.Core.Bool.{true, false}
+use mathlib.Core.Bool.{true}
 use mathlib.Core.List.{List, [], _∷_, map}
 use lib.ListN.{length, take, drop, getD, drop-of-length-le, length-drop}
 use lib.Seq.{getD-drop, take-length}
-use Rattle.paper.specs.Groups.{endsWith, fitting, which, first, chosen, obeyed}
+use Rattle.paper.specs.Groups.{fitting, which, first, chosen, obeyed}
 use Rattle.paper.specs.ReadingLaws.{obeys}
 use Rattle.paper.specs.LongerFirst.{longerFirst, first-fits, passed-by, longerFirst-rest}
 use Rattle.words.specs.Tables.{ruleAt, picked, AllBelow, EndsAt}
 use Rattle.words.proofs.Candidates.{below-at}
-use Rattle.words.proofs.InTurn.{from-place, here-and-next}
+use Rattle.words.proofs.InTurn.{from-place, here-and-next, ends-of, size-of}
 use Rattle.words.proofs.choosing.among.Statement.{statement}
 use Rattle.words.proofs.choosing.among.Tie as tie
 
@@ -87,31 +87,32 @@ part-obeyed-start c = omega arith
 part-obeyed-end : tie.Need-part-obeyed-end Inv-loop μ-loop
 part-obeyed-end c = omega arith
 
+-- the rule that was found ends the word
+ends-there : (c : tie.After-size Inv-loop μ-loop)
+    → EndsAt (c .before .before .before .before .before .before .before .before .before .before .before .before .args .word .now) (c .size .result) (c .before .before .before .before .before .before .before .before .before .before .before .before .args .candidates .now) (c .before .before .before .before .before .before .loop .i)
+ends-there c =
+    let s = c .before .before .before .before .before .before .before .before .before .before .before .before in
+    let same = c .before .before .before .wide .ensures in
+    let at = c .before .before .before .before .before .before .loop in (
+      ends-of (s .args .word .now) (s .args .candidates .now) (at .i) _ same (c .before .before .ends .ensures) (c .before .if1 .taken),
+      size-of (s .args .word .now) (s .args .candidates .now) (at .i) _ same (c .size .ensures),
+    )
+
 obeyed-requires : tie.Need-obeyed-requires Inv-loop μ-loop
 obeyed-requires c κs =
     let s = c .before .before .before .before .before .before .before .before .before .before .before .before .before in
     let at = c .before .before .before .before .before .before .before .loop in
-    let candidates = s .args .candidates .now in
-    let rule = ruleAt (getD candidates (at .i) 0) in
-    let same : c .before .before .before .before .wide .result ≡ getD candidates (at .i) 0 = c .before .before .before .before .wide .ensures in
-    let ends : endsWith (s .args .word .now) (rule .ending) ≡ true = cc in
-    let size : length (rule .ending) ≡ c .before .size .result = cc in
-    let rest = rest-starts (s .args .word .now) candidates (at .i) (c .before .size .result)
-    (c .before .before .before .before .before .before .loop-test .taken) (s .pre .0 .0) (ends, size) in
-    (rw (rest-of candidates (at .i)) rest, s .pre .1)
+    let rest = rest-starts (s .args .word .now) (s .args .candidates .now) (at .i) (c .before .size .result) (c .before .before .before .before .before .before .loop-test .taken) (s .pre .0 .0)
+    (ends-there (c .before)) in
+    (rw (rest-of (s .args .candidates .now) (at .i)) rest, s .pre .1)
 
 returns : tie.Need-returns Inv-loop μ-loop
 returns c =
     let s = c .before .before .before .before .before .before .before .before .before .before .before .before .before .before in
     let at = c .before .before .before .before .before .before .before .before .loop in
-    let word = s .args .word .now in
     let candidates = s .args .candidates .now in
-    let rule = ruleAt (getD candidates (at .i) 0) in
-    let same : c .before .before .before .before .before .wide .result ≡ getD candidates (at .i) 0 = c .before .before .before .before .before .wide .ensures in
-    let ends : endsWith word (rule .ending) ≡ true = cc in
-    let size : length (rule .ending) ≡ c .before .before .size .result = cc in
-    let found = first-obeyed word candidates (at .i) (c .before .before .size .result) (c .before .before .before .before .before .before .before .loop-test .taken)
-    (at .inv .2) (ends, size) in
+    let found = first-obeyed (s .args .word .now) candidates (at .i) (c .before .before .size .result) (c .before .before .before .before .before .before .before .loop-test .taken) (at .inv .2)
+    (ends-there (c .before .before)) in
     ((rw (rest-of candidates (at .i)) at (c .obeyed .ensures .0)) ∙ found ∙ at .inv .1, c .obeyed .ensures .1)
 
 add-i : tie.Need-add-i Inv-loop μ-loop
@@ -128,8 +129,7 @@ loop-again c =
     let candidates = s .args .candidates .now in
     let rule = ruleAt (getD candidates (at .i) 0) in
     let later = from-place candidates (at .i + 1) in
-    let same : c .before .before .wide .result ≡ getD candidates (at .i) 0 = c .before .before .wide .ensures in
-    let other : endsWith word (rule .ending) ≡ false = cc in
+    let other = ends-of word candidates (at .i) _ (c .before .before .wide .ensures) (c .before .ends .ensures) (c .if1 .left) in
     let here = here-and-next candidates (at .i) (c .before .before .before .before .loop-test .taken) in (
       omega arith,
       sym (passed-by word rule later other) ∙ (rw here at (at .inv .1)),

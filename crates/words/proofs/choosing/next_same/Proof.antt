@@ -4,14 +4,14 @@ use Prim.Native.Nat.{_-_, _≤_}
 use borrow.Author.Needs.{needs}
 use native.Mathlib.Omega.{arith}
 use mathlib.Core.Path.{_≡_, refl, sym, _∙_}
-use mathlib.Core.Bool.{true, false}
+use mathlib.Core.Bool.{false}
 use mathlib.Core.Logic.{⊎-elim}
 use lib.ListN.{length, getD}
-use Rattle.paper.specs.Groups.{endsWith, first}
+use Rattle.paper.specs.Groups.{first}
 use Rattle.paper.specs.ReadingLaws.{obeys, obeys-size, obeys-ends}
 use Rattle.words.specs.Tables.{ruleAt}
 use Rattle.words.proofs.Candidates.{below-at}
-use Rattle.words.proofs.InTurn.{from-place, first-next}
+use Rattle.words.proofs.InTurn.{from-place, first-next, ends-of, size-of}
 use Rattle.words.proofs.choosing.next_same.Statement.{statement}
 use Rattle.words.proofs.choosing.next_same.Tie as tie
 
@@ -50,10 +50,10 @@ returns : tie.Need-returns Inv-loop μ-loop
 returns c =
     let s = c .before .before .before .before .before .before .before .before .before .before .before .before in
     let at = c .before .before .before .before .before .before .before .loop in
-    let rule = ruleAt (getD (s .args .candidates .now) (at .i) 0) in
-    let same : c .before .before .before .before .wide .result ≡ getD (s .args .candidates .now) (at .i) 0 = c .before .before .before .before .wide .ensures in
-    let ends : endsWith (s .args .word .now) (rule .ending) ≡ true = cc in
-    let size : length (rule .ending) ≡ s .args .n = cc in
+    let candidates = s .args .candidates .now in
+    let same = c .before .before .before .before .wide .ensures in
+    let ends = ends-of (s .args .word .now) candidates (at .i) _ same (c .before .ends .ensures) (c .if2 .taken) in
+    let size = size-of (s .args .word .now) candidates (at .i) _ same (c .before .before .before .size .ensures) ∙ c .before .before .if1 .taken in
     record { behind = at .inv .0; within = at .inv .1; rest = at .inv .2; ends-there = λ h. (ends, size) }
 
 add-i : tie.Need-add-i Inv-loop μ-loop
@@ -67,13 +67,15 @@ loop-again c =
     let s = c .before .before .before .before .before .before .before .before .before .before in
     let at = c .before .before .before .before .before .loop in
     let word = s .args .word .now in
-    let rule = ruleAt (getD (s .args .candidates .now) (at .i) 0) in
-    let same : c .before .before .wide .result ≡ getD (s .args .candidates .now) (at .i) 0 = c .before .before .wide .ensures in
+    let candidates = s .args .candidates .now in
+    let rule = ruleAt (getD candidates (at .i) 0) in
+    let same = c .before .before .wide .ensures in
+    let size = size-of word candidates (at .i) _ same (c .before .size .ensures) in
     let passed-over : obeys word (s .args .n) rule ≡ false =
-    ⊎-elim (λ w. let other : endsWith word (rule .ending) ≡ false = cc in obeys-ends word (s .args .n) rule other)
-    (λ w. let n : length (rule .ending) ≡ c .before .size .result = cc in obeys-size word (s .args .n) rule (λ e. omega (arith, w .left)))
+    ⊎-elim (λ w. obeys-ends word (s .args .n) rule (ends-of word candidates (at .i) _ same (w .1 .ensures) (w .2 .left)))
+    (λ w. obeys-size word (s .args .n) rule (λ e. w .left (sym size ∙ e)))
     (c .if1 .came) in
-    (omega arith, omega arith, sym (first-next (obeys word (s .args .n)) (s .args .candidates .now) (at .i) (c .before .before .before .before .loop-test .taken) passed-over) ∙ at .inv .2)
+    (omega arith, omega arith, sym (first-next (obeys word (s .args .n)) candidates (at .i) (c .before .before .before .before .loop-test .taken) passed-over) ∙ at .inv .2)
 
 returns-2 : tie.Need-returns-2 Inv-loop μ-loop
 returns-2 c =
