@@ -45,6 +45,10 @@ conditions part =
     ∷ (ltb 1 m && (*d part && lastIs "l" part))
     ∷ []
 
+-- the highest of these numbers
+abbrev pub highest : ℕ
+highest = 8
+
 -- the condition of this number holds of the part before the ending
 unfoldable pub holds : ℕ → List ℕ → Bool
 holds number part = getD (conditions part) number false

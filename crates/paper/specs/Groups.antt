@@ -12,6 +12,16 @@ pub data Action : Type 0 where
   replace : List ℕ → Action
   single-letter : Action
 
+-- what it writes behind the part: S2, or nothing where a single letter is left
+abbrev pub written : Action → List ℕ
+written (replace s2) = s2
+written single-letter = []
+
+-- "action (0 replace, 1 single letter)"
+abbrev pub numberOfAction : Action → ℕ
+numberOfAction (replace s2) = 0
+numberOfAction single-letter = 1
+
 -- "A group is a list of rules: condition, ending S1, replacement S2." A rule may open the next group.
 pub record Rule : Type 0 where
   pub condition : ℕ
@@ -22,6 +32,10 @@ pub record Rule : Type 0 where
 -- "0: always run. 1: run only if the group just before was run and obeyed a rule that opens."
 pub data Gate : Type 0 where
   always if-opened : Gate
+
+abbrev pub numberOfGate : Gate → ℕ
+numberOfGate always = 0
+numberOfGate if-opened = 1
 
 pub record Group : Type 0 where
   pub gate : Gate

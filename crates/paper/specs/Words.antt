@@ -1,6 +1,6 @@
 -- The stem of a word, and what a call on a word answers: document 01, "Numbers returned". Assumes nothing.
 use Prim.Native.Nat.{ℕ, _-_}
-use mathlib.Core.Bool.{Bool, false, cond, _&&_, _||_}
+use mathlib.Core.Bool.{Bool, true, false, cond, _&&_, _||_}
 use mathlib.Core.List.{List, [], _∷_, _++_}
 use lib.Dec.{eqb, leb, ltb}
 use lib.ListN.{length, replicate}
@@ -26,6 +26,11 @@ wrongLength word = eqb (length word) 0 || ltb 64 (length word)
 -- a byte from a to z
 abbrev pub small : ℕ → Bool
 small byte = leb 97 byte && leb byte 122
+
+-- every byte is from a to z
+unfoldable pub allSmall : List ℕ → Bool
+allSmall [] = true
+allSmall (byte ∷ bytes) = small byte && allSmall bytes
 
 -- how many bytes stand before the first that is outside a to z
 unfoldable pub firstOther : List ℕ → ℕ
