@@ -1,4 +1,5 @@
--- Document 01, "How a group is read", and of "The sheet" what a gate is. Assumes nothing.
+-- Document 01, "How a group is read", and of "The sheet" what a gate is: the rule that is obeyed in a group, and the one way
+-- through the groups, whoever says which rule is obeyed in each.
 use Prim.Native.Nat.{ℕ, _-_, max}
 use mathlib.Core.Bool.{Bool, true, false, cond, _&&_}
 use mathlib.Core.List.{List, [], _∷_, _++_}
@@ -89,33 +90,55 @@ unfoldable pub act : Action → List ℕ → List ℕ
 act (replace s2) part = part ++ s2
 act single-letter part = take (length part - 1) part
 
--- what a group gives: the word, and whether the rule obeyed opens the next group
-pub record Result : Type 0 where
-  pub word : List ℕ
-  pub opened : Bool
-
-unfoldable pub resultOf : List ℕ → Option Rule → Result
-resultOf word none = record { word = word; opened = false }
-resultOf word (some rule) = record { word = act (rule .action) (before word (rule .ending)); opened = rule .opens }
-
-unfoldable pub readGroup : List ℕ → List Rule → Result
-readGroup word rules = resultOf word (obeyed word rules)
+-- ## Going through the groups
 
 abbrev pub runs : Gate → Bool → Bool
 runs always opened = true
 runs if-opened opened = opened
 
--- what reading groups gives: the word they leave, or that some group's result was longer than the word's place
+-- a group as one who goes through it needs it: its gate, and which of its rules a word obeys
+pub record Turn : Type 0 where
+  pub gate : Gate
+  pub obeys : List ℕ → Option Rule
+
+-- a group that is read
+abbrev pub readTurn : Group → Turn
+readTurn group = record { gate = group .gate; obeys = λ word. obeyed word (group .rules) }
+
+-- "the result is the part before S1 followed by S2"; where no rule is obeyed "the group changes nothing"
+unfoldable pub result : List ℕ → Option Rule → List ℕ
+result word none = word
+result word (some rule) = act (rule .action) (before word (rule .ending))
+
+-- the rule that was obeyed opens the next group
+unfoldable pub opensNext : Option Rule → Bool
+opensNext none = false
+opensNext (some rule) = rule .opens
+
+-- what a group leaves: the rule that was obeyed, and the word
+pub record Step : Type 0 where
+  pub obeyed : Option Rule
+  pub word : List ℕ
+
+-- what each group leaves, in their order; a group that is not run obeys no rule. `opened` says whether "the group just before
+-- was run and obeyed a rule that opens".
+unfoldable pub steps : List Turn → Bool → List ℕ → List Step
+steps [] opened word = []
+steps (turn ∷ turns) opened word =
+    let obeyed = cond (runs (turn .gate) opened) (turn .obeys word) none in
+    let left = result word obeyed in
+    record { obeyed = obeyed; word = left } ∷ steps turns (opensNext obeyed) left
+
+-- what going through groups gives: the word they leave, or that "some group's result is longer than the word's place"
 pub data Reading : Type 0 where
   done : List ℕ → Reading
   outgrown : Reading
 
--- the groups read in their order, in a place of so many bytes; `opened` says whether the group just before was run and
--- obeyed a rule that opens
-unfoldable pub read : ℕ → List Group → Bool → List ℕ → Reading
-read place [] opened word = done word
-read place (group ∷ groups) opened word =
-    let result = readGroup word (group .rules) in
-    let run = cond (leb (length (result .word)) place) (read place groups (result .opened) (result .word)) outgrown in
-    let skipped = read place groups false word in
-    cond (runs (group .gate) opened) run skipped
+-- that of a word and the steps from it, in a place of so many bytes
+unfoldable pub reading : ℕ → List ℕ → List Step → Reading
+reading place word [] = done word
+reading place word (step ∷ later) = cond (leb (length (step .word)) place) (reading place (step .word) later) outgrown
+
+-- that of a word and groups
+abbrev pub through : ℕ → List Turn → Bool → List ℕ → Reading
+through place turns opened word = reading place word (steps turns opened word)

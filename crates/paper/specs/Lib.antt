@@ -11,7 +11,7 @@ pub mod LettersLaws
 pub mod GroupsLaws
 pub mod ReadingLaws
 pub mod LongerFirst
-pub mod StepLaws
+pub mod TurnLaws
 pub mod LengthLaws
 pub mod WordsLaws
 pub mod Demand2

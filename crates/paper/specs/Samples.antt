@@ -17,7 +17,8 @@ use Rattle.paper.specs.Letters.{
   measure,
 }
 use Rattle.paper.specs.Conditions.{someVowel, *v*, *d, *o, lastIs, conditions, holds}
-use Rattle.paper.specs.Groups.{done, same, endsWith, before, which, first, fitting, longest, chosen, obeyed, act, resultOf, readGroup, read}
+use Rattle.paper.specs.Groups.{done, same, endsWith, before, which, first, fitting, longest, chosen, obeyed, act}
+use Rattle.paper.specs.Groups.{result, opensNext, steps, reading}
 use Rattle.paper.specs.Shipped.{shipped}
 use Rattle.paper.specs.Words.{readWord, stem}
 
@@ -43,7 +44,7 @@ samples =
 
 pub samples-hold : map (λ s. stem (letters (s .0))) samples ≡ map (λ s. done (letters (s .1))) samples
 unfolding among vowelAfter classAfter inward classOf letterAt classAt rises measure someVowel *v* *d *o lastIs
-    conditions holds same endsWith before which first fitting longest chosen obeyed act resultOf readGroup read shipped
+    conditions holds same endsWith before which first fitting longest chosen obeyed act result opensNext steps reading shipped
     readWord stem samples
 samples-hold = refl
 

@@ -1,15 +1,15 @@
 -- The stem of a word, and what a call on a word answers: document 01, "Numbers returned". Assumes nothing.
 use Prim.Native.Nat.{ℕ, _-_}
 use mathlib.Core.Bool.{Bool, true, false, cond, _&&_, _||_}
-use mathlib.Core.List.{List, [], _∷_, _++_}
+use mathlib.Core.List.{List, [], _∷_, _++_, map}
 use lib.Dec.{eqb, leb, ltb}
 use lib.ListN.{length, replicate}
-use Rattle.paper.specs.Groups.{Group, Reading, done, outgrown, read}
+use Rattle.paper.specs.Groups.{Group, readTurn, Reading, done, outgrown, through}
 use Rattle.paper.specs.Shipped.{shipped}
 
 -- a word read by groups, in its own place
 unfoldable pub readWord : List Group → List ℕ → Reading
-readWord groups word = read (length word) groups false word
+readWord groups word = through (length word) (map readTurn groups) false word
 
 -- the stem of a word: what the shipped rules leave of it
 unfoldable pub stem : List ℕ → Reading

@@ -16,21 +16,8 @@ use Rattle.paper.specs.Letters.{
   measure,
 }
 use Rattle.paper.specs.Conditions.{someVowel, *v*, *d, *o, lastIs, conditions, holds}
-use Rattle.paper.specs.Groups.{
-  same,
-  endsWith,
-  before,
-  which,
-  first,
-  fitting,
-  longest,
-  chosen,
-  obeyed,
-  act,
-  resultOf,
-  readGroup,
-  read,
-}
+use Rattle.paper.specs.Groups.{same, endsWith, before, which, first, fitting, longest, chosen, obeyed, act}
+use Rattle.paper.specs.Groups.{result, opensNext, steps, reading}
 use Rattle.paper.specs.Shipped.{shipped}
 use Rattle.paper.specs.Words.{readWord, stem, placed}
 use Rattle.texts.specs.Pieces.{isLetter, withLetter, pieces}
@@ -62,6 +49,6 @@ gives s = record { text = letters (s .after); stemmed = s .stemmed; left = s .le
 
 pub samples-hold : map (λ s. runText stem (letters (s .given))) samples ≡ map gives samples
 unfolding among vowelAfter classAfter inward classOf letterAt classAt rises measure someVowel *v* *d *o lastIs
-    conditions holds same endsWith before which first fitting longest chosen obeyed act resultOf readGroup read shipped
+    conditions holds same endsWith before which first fitting longest chosen obeyed act result opensNext steps reading shipped
     readWord stem placed isLetter withLetter pieces lowered answered ofWord ofPiece ofPieces runText samples
 samples-hold = refl

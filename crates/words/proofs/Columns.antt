@@ -7,7 +7,8 @@ use mathlib.Core.List.{List, [], map}
 use lib.Dec.{eqb}
 use lib.ListN.{length, take, drop, getD, length-map, List·getD-map}
 use Rattle.paper.specs.Letters.{letters}
-use Rattle.paper.specs.Groups.{Action, replace, single-letter, Rule, Gate, always, if-opened, Group, runs}
+use Rattle.paper.specs.Groups.{Action, replace, single-letter, written, numberOfAction, Rule}
+use Rattle.paper.specs.Groups.{Gate, always, if-opened, numberOfGate, Group, runs}
 use Rattle.paper.specs.Shipped.{shipped}
 use Rattle.words.specs.Tables.{
   joined,
@@ -17,15 +18,12 @@ use Rattle.words.specs.Tables.{
   noGroup,
   noRule,
   ruleAt,
-  gateNumber,
   gateDigits,
   endings,
   endingLetters,
   endingStarts,
   conditionDigits,
   digit,
-  written,
-  isSingle,
   replacements,
   replacementLetters,
   replacementStarts,
@@ -76,11 +74,11 @@ from-digit true = refl
 from-digit false = refl
 
 -- the gate of a group, by its digit
-gate-runs : (gate : Gate) (opened : Bool) → (eqb (digit (gateNumber gate)) 48 || opened) ≡ runs gate opened
+gate-runs : (gate : Gate) (opened : Bool) → (eqb (digit (numberOfGate gate)) 48 || opened) ≡ runs gate opened
 gate-runs always opened = refl
 gate-runs if-opened opened = refl
 
-group-count : length shipped ≡ 9
+pub group-count : length shipped ≡ 9
 unfolding shipped
 group-count = refl
 
@@ -93,7 +91,7 @@ pub gate-at :
 unfolding gateDigits
 gate-at g opened known =
     ap (λ (n : ℕ). eqb n 48 || opened)
-    (map-at (λ (group : Group). digit (gateNumber (group .gate))) shipped g noGroup 0 (rw group-count known))
+    (map-at (λ (group : Group). digit (numberOfGate (group .gate))) shipped g noGroup 0 (rw group-count known))
     ∙ gate-runs (getD shipped g noGroup .gate) opened
 
 pub condition-count : length conditionDigits ≡ 62
@@ -104,14 +102,14 @@ pub condition-at : (rule : ℕ) → rule < 62 → getD conditionDigits rule 0 �
 unfolding conditionDigits
 condition-at rule known = rule-number-at (λ r. digit (r .condition)) rule known
 
-single-digit : (action : Action) → eqb (digit (isSingle action)) 49 ≡ eqb (isSingle action) 1
+single-digit : (action : Action) → eqb (digit (numberOfAction action)) 49 ≡ eqb (numberOfAction action) 1
 single-digit (replace s2) = refl
 single-digit single-letter = refl
 
-pub single-at : (rule : ℕ) → rule < 62 → eqb (getD singles rule 0) 49 ≡ eqb (isSingle (ruleAt rule .action)) 1
+pub single-at : (rule : ℕ) → rule < 62 → eqb (getD singles rule 0) 49 ≡ eqb (numberOfAction (ruleAt rule .action)) 1
 unfolding singles
 single-at rule known =
-    ap (λ (n : ℕ). eqb n 49) (rule-number-at (λ r. digit (isSingle (r .action))) rule known)
+    ap (λ (n : ℕ). eqb n 49) (rule-number-at (λ r. digit (numberOfAction (r .action))) rule known)
     ∙ single-digit (ruleAt rule .action)
 
 pub opens-at : (rule : ℕ) → rule < 62 → eqb (getD openings rule 0) 49 ≡ ruleAt rule .opens

@@ -8,7 +8,7 @@ use mathlib.Core.Option.{Option, none, some}
 use lib.Dec.{eqb, ltb}
 use lib.ListN.{length, drop, getD}
 use Rattle.paper.specs.Letters.{letters, among, letterAt, inward}
-use Rattle.paper.specs.Groups.{Action, replace, single-letter, Rule, Gate, always, if-opened, Group, endsWith, first}
+use Rattle.paper.specs.Groups.{replace, written, numberOfAction, Rule, always, numberOfGate, Group, endsWith, first, obeyed, result}
 use Rattle.paper.specs.ReadingLaws.{obeys}
 use Rattle.paper.specs.Shipped.{shipped}
 
@@ -38,6 +38,10 @@ noGroup = record { gate = always; rules = [] }
 unfoldable pub groupRules : ℕ → List Rule
 groupRules number = getD shipped number noGroup .rules
 
+-- what that group leaves of a word
+abbrev pub turned : List ℕ → ℕ → List ℕ
+turned word number = result word (obeyed word (groupRules number))
+
 -- the rule of a number, counted from 0
 abbrev pub noRule : Rule
 noRule = record { condition = 0; ending = []; action = replace []; opens = false }
@@ -48,18 +52,6 @@ ruleAt number = getD rules number noRule
 -- a number below 62 names a rule, any other none
 unfoldable pub picked : ℕ → Option Rule
 picked number = cond (ltb number 62) (some (ruleAt number)) none
-
-abbrev pub written : Action → List ℕ
-written (replace s2) = s2
-written single-letter = []
-
-abbrev pub isSingle : Action → ℕ
-isSingle (replace s2) = 0
-isSingle single-letter = 1
-
-abbrev pub gateNumber : Gate → ℕ
-gateNumber always = 0
-gateNumber if-opened = 1
 
 unfoldable pub endings : List (List ℕ)
 unfolding rules
@@ -95,7 +87,7 @@ conditionDigits = map (λ rule. digit (rule .condition)) rules
 
 unfoldable pub singles : List ℕ
 unfolding rules
-singles = map (λ rule. digit (isSingle (rule .action))) rules
+singles = map (λ rule. digit (numberOfAction (rule .action))) rules
 
 unfoldable pub openings : List ℕ
 unfolding rules
@@ -103,7 +95,7 @@ openings = map (λ rule. digit (cond (rule .opens) 1 0)) rules
 
 unfoldable pub gateDigits : List ℕ
 unfolding shipped
-gateDigits = map (λ group. digit (gateNumber (group .gate))) shipped
+gateDigits = map (λ group. digit (numberOfGate (group .gate))) shipped
 
 -- a word whose last letter is this one may end with the rule's ending
 unfoldable pub may : ℕ → Rule → Bool

@@ -7,13 +7,9 @@ ghost use lib.ListN.{length};
 ghost use Rattle.paper.specs.Groups.{endsWith, first, obeyed as obeyedOf};
 ghost use Rattle.paper.specs.ReadingLaws.{obeys};
 ghost use Rattle.paper.specs.LongerFirst.{longerFirst};
-ghost use Rattle.words.specs.Tables.{AllBelow, EndsAt, NextSame, Column, ruleAt, picked, groupRules, endingLetters, endingStarts, conditionDigits, candidateNumbers, candidateStarts};
-
-pub(crate) fn wide(number: u8) -> usize
-    ensures { λ r. ⌜ r ≡ number ⌝ }
-{
-    number as usize
-}
+ghost use Rattle.words.specs.Tables.{AllBelow, EndsAt, NextSame, Column, ruleAt, picked, groupRules};
+ghost use Rattle.words.specs.Tables.{endingLetters, endingStarts, conditionDigits, candidateNumbers, candidateStarts};
+use numbers::wide;
 
 // How many letters the ending of a rule has.
 pub(crate) fn size(rule: usize, starts: &[u8]) -> usize

@@ -4,18 +4,18 @@ ghost use mathlib.Core.List.{List, _++_};
 ghost use Prim.Native.Nat.{ℕ, _+_, _<_, _≤_};
 ghost use lib.Dec.{eqb};
 ghost use lib.ListN.{length, take};
-ghost use Rattle.paper.specs.Groups.{act};
-ghost use Rattle.words.specs.Tables.{ruleAt, written, isSingle, replacementLetters, replacementStarts};
-use crate::choosing::wide;
+ghost use Rattle.paper.specs.Groups.{act, written, numberOfAction};
+ghost use Rattle.words.specs.Tables.{ruleAt, replacementLetters, replacementStarts};
 use crate::rules::OPENS;
 use crate::rules::REPLACEMENT_STARTS;
 use crate::rules::REPLACEMENTS;
 use crate::rules::SINGLE;
+use numbers::wide;
 
 // Whether a rule leaves a single letter of two.
 fn single(rule: usize) -> bool
     requires { ⌜ rule < 62 ⌝ }
-    ensures { λ r. ⌜ r ≡ eqb (isSingle (ruleAt rule .action)) 1 ⌝ }
+    ensures { λ r. ⌜ r ≡ eqb (numberOfAction (ruleAt rule .action)) 1 ⌝ }
 {
     SINGLE[rule] == 49
 }

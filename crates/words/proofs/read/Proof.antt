@@ -4,13 +4,13 @@ use borrow.Author.Needs.{needs}
 use native.Mathlib.Omega.{arith}
 use mathlib.Core.Path.{_≡_, refl, sym, ap, _∙_}
 use mathlib.Core.Bool.{true, false, _||_}
-use mathlib.Core.List.{List, []}
+use mathlib.Core.List.{List, [], map}
 use mathlib.Core.Logic.{⊎-elim}
 use lib.Dec.{eqb}
 use lib.ListN.{length, take, drop, getD}
-use lib.Seq.{take-length}
+use lib.Seq.{take-length, length-take-le}
 use Rattle.paper.specs.Shipped.{shipped}
-use Rattle.paper.specs.Groups.{Group, read}
+use Rattle.paper.specs.Groups.{Group, readTurn, steps, reading, through}
 use Rattle.paper.specs.Words.{readWord, stem}
 use Rattle.words.specs.Tables.{gateDigits, Column}
 use Rattle.words.proofs.Turns.{Left-to-read, passed-over, result-fits, read-on}
@@ -39,7 +39,7 @@ loop-holds c =
       omega arith,
       omega arith,
       refl,
-      ap (read (length (s .args .word .now)) shipped false) (take-length (s .args .word .now)),
+      ap (through (length (s .args .word .now)) (map readTurn shipped) false) (take-length (s .args .word .now)),
       rw (take-length (s .args .word .now)) (c .column-of .ensures),
     )
 
@@ -82,7 +82,8 @@ loop-again c =
     ))
     (λ w.
     let closed : (eqb (getD gateDigits (at .group) 0) 48 || at .opened) ≡ false = rw (s .pre .0 .0) at (w .0 .left) in
-    let next = passed-over given (at .group) known (at .opened) (take (at .len) (at .word)) (at .inv .3) closed in
+    let next = passed-over given (at .group) known (at .opened) (take (at .len) (at .word)) (at .inv .3) closed
+    (omega (arith, length-take-le (at .len) (at .word) (at .inv .1))) in
     (omega arith, rw (w .1, w .2) (at .inv .1), rw (w .1) (at .inv .2), rw (w .1, w .2, w .4) next, rw (w .1, w .2, w .3) (at .inv .4)))
     (c .if1 .came)
 
@@ -90,14 +91,15 @@ same-length : tie.Need-same-length Inv-loop μ-loop
 same-length c = c .before .loop .inv .2
 
 returns : tie.Need-returns Inv-loop μ-loop
-unfolding read shipped
+unfolding steps reading shipped
 returns c =
     let s = c .before .before .before .before .before .before .before .before .before .before .before in
     let at = c .before .loop in
     let end : at .group ≡ 9 = omega arith in
     let nothing-left : drop (at .group) shipped ≡ [] = ap (λ (k : ℕ). drop k shipped) end in (
-      sym (at .inv .3) ∙ ap (λ (groups : List Group). read (length (s .args .word .now)) groups (at .opened) (take
-          (at .len) (at .word))) nothing-left,
+      sym (at .inv .3)
+          ∙ ap (λ (groups : List Group). through (length (s .args .word .now)) (map readTurn groups) (at .opened)
+          (take (at .len) (at .word))) nothing-left,
       omega arith,
     )
 

@@ -1,13 +1,13 @@
--- `words::turn` meets its contract: the rule chosen is the rule obeyed. Assumes nothing.
+-- `words::turn` meets its contract: the rule chosen is the rule obeyed.
 use Prim.Native.Nat.{ℕ, _-_, _≤_, _<_}
 use borrow.Author.Needs.{needs}
 use native.Mathlib.Omega.{arith}
 use mathlib.Core.Path.{_≡_, sym, ap, _∙_}
 use lib.ListN.{length, take}
 use lib.Seq.{length-take-le}
-use Rattle.paper.specs.Groups.{Result, act}
+use Rattle.paper.specs.Groups.{act}
 use Rattle.words.specs.Tables.{ruleAt, picked, groupRules}
-use Rattle.words.proofs.Turns.{none-obeyed, one-obeyed, written-fits}
+use Rattle.words.proofs.Turns.{none-obeyed, Gave, one-obeyed, written-fits}
 use Rattle.words.proofs.turn.Statement.{statement}
 use Rattle.words.proofs.turn.Tie as tie
 
@@ -29,32 +29,39 @@ returns c =
     let s = c .before .before .before .before .before .before .before .before .before in
     let none = none-obeyed (s .args .word .now) (s .args .len) (s .pre .1 .1 .0 .0) (groupRules (s .args .group))
     (ap picked (sym (c .if1 .taken)) ∙ c .before .choose .ensures .0) in
-    (sym (ap (λ (r : Result). r .word) none), (s .pre .1 .1 .0, sym (ap (λ (r : Result). r .opened) none)))
+    (sym (none .0), (s .pre .1 .1 .0, sym (none .1)))
 
 size-requires : tie.Need-size-requires
 size-requires c κs = search needs
 
+-- once its ending was measured, the rule is known, and so is what it gives
+module _ (c : tie.After-size) where
+  abbrev start : tie.Start
+  start = c .before .before .before .before .before .before .before .before .before .before
+
+  abbrev rule : ℕ
+  rule = c .before .before .choose .result
+
+  known : rule < 62
+  known = omega (arith, c .before .before .choose .ensures .1, c .before .if1 .left)
+
+  gave : Gave (start .args .word .now) (start .args .len) (start .pre .1 .1 .0 .0) (groupRules (start .args .group)) rule
+  gave = one-obeyed _ _ _ _ rule known (c .before .before .choose .ensures .0)
+
+  part : start .args .len - c .size .result ≡ start .args .len - length (ruleAt rule .ending)
+  part = omega (arith, c .size .ensures)
+
 sub-part : tie.Need-sub-part
-sub-part c =
-    let s = c .before .before .before .before .before .before .before .before .before .before in
-    let place = s .args .word .now in
-    let rule = c .before .before .choose .result in
-    let known : rule < 62 = omega (arith, c .before .before .choose .ensures .1, c .before .if1 .left) in
-    let gave = one-obeyed place (s .args .len) (s .pre .1 .1 .0 .0) (groupRules (s .args .group)) rule known (c .before .before .choose .ensures .0) in
-    omega (arith, gave .short, c .size .ensures)
+sub-part c = omega (arith, gave c .short, c .size .ensures)
 
 obey-requires : tie.Need-obey-requires
 obey-requires c κs =
-    let s = c .before .before .before .before .before .before .before .before .before .before .before in
+    let s = start (c .before) in
     let place = s .args .word .now in
-    let rule = c .before .before .before .choose .result in
-    let known : rule < 62 = omega (arith, c .before .before .before .choose .ensures .1, c .before .before .if1 .left) in
-    let gave = one-obeyed place (s .args .len) (s .pre .1 .1 .0 .0) (groupRules (s .args .group)) rule known
-    (c .before .before .before .choose .ensures .0) in
-    let part : s .args .len - c .before .size .result ≡ s .args .len - length (ruleAt rule .ending) = omega (arith, c .before .size .ensures) in
-    let result : length (act (ruleAt rule .action) (take (s .args .len - c .before .size .result) place)) ≤ length place
-    = rw (part, ← gave .word) (s .pre .1 .1 .1) in
-    ((known, omega arith), written-fits (ruleAt rule .action) place (s .args .len - c .before .size .result) (omega arith) result)
+    let rest = s .args .len - c .before .size .result in
+    let action = ruleAt (rule (c .before)) .action in
+    let result : length (act action (take rest place)) ≤ length place = rw (part (c .before), ← gave (c .before) .word) (s .pre .1 .1 .1) in
+    ((known (c .before), omega arith), written-fits action place rest (omega arith) result)
 
 slice-reshare-prefix-column-of : tie.Need-slice-reshare-prefix-column-of
 slice-reshare-prefix-column-of c = search needs
@@ -75,15 +82,13 @@ same-length-2 c = search needs
 
 returns-2 : tie.Need-returns-2
 returns-2 c =
-    let s = c .before .before .before .before .before .before .before .before .before .before .before .before .before .before .before .before .before in
-    let place = s .args .word .now in
-    let rule = c .before .before .before .before .before .before .before .before .before .choose .result in
-    let known : rule < 62 = omega (arith, c .before .before .before .before .before .before .before .before .before .choose .ensures .1, c .before .before .before .before .before .before .before .before .if1 .left) in
-    let gave = one-obeyed place (s .args .len) (s .pre .1 .1 .0 .0) (groupRules (s .args .group)) rule known (c .before .before .before .before .before .before .before .before .before .choose .ensures .0) in
-    let part : s .args .len - c .before .before .before .before .before .before .before .size .result ≡ s .args .len - length (ruleAt rule .ending) = omega (arith, c .before .before .before .before .before .before .before .size .ensures) in
-    let obeyed = c .before .before .before .before .before .obey in (
-      obeyed .ensures .0 ∙ ap (λ (k : ℕ). act (ruleAt rule .action) (take k place)) part ∙ sym (gave .word),
-      ((obeyed .ensures .1, c .before .column-of .ensures), c .opens .ensures ∙ sym (gave .opened)),
+    let sized = c .before .before .before .before .before .before .before in
+    let obeyed = c .before .before .before .before .before .obey in
+    let place = start sized .args .word .now in (
+      obeyed .ensures .0
+          ∙ ap (λ (k : ℕ). act (ruleAt (rule sized) .action) (take k place)) (part sized)
+          ∙ sym (gave sized .word),
+      ((obeyed .ensures .1, c .before .column-of .ensures), c .opens .ensures ∙ sym (gave sized .opened)),
     )
 
 pub turn-spec : {M : Type 1} → statement M

@@ -9,21 +9,21 @@ use mathlib.Core.List.{List, [], _∷_, _++_, append-nil}
 use lib.Dec.{eqb}
 use lib.ListN.{length, take}
 use lib.Seq.{length-take-le, take-take}
-use Rattle.paper.specs.Groups.{Action, replace, single-letter, act}
-use Rattle.words.specs.Tables.{ruleAt, written, isSingle, replacementLetters, replacementStarts}
+use Rattle.paper.specs.Groups.{Action, replace, single-letter, written, numberOfAction, act}
+use Rattle.words.specs.Tables.{ruleAt, replacementLetters, replacementStarts}
 use Rattle.words.proofs.obeying.obey.Statement.{statement}
 use Rattle.words.proofs.obeying.obey.Tie as tie
 
 act-single :
     (action : Action) (word : List ℕ) (part : ℕ)
-    → eqb (isSingle action) 1 ≡ true
+    → eqb (numberOfAction action) 1 ≡ true
     → part ≤ length word
     → act action (take part word) ≡ take (part - 1) word
 unfolding act
 act-single (replace s2) word part e fits = absurd (true≢false (sym e))
 act-single single-letter word part e fits = rw (length-take-le part word fits) (take-take (part - 1) part word (omega arith))
 
-act-replace : (action : Action) (part : List ℕ) → eqb (isSingle action) 1 ≡ false → act action part ≡ part ++ written action
+act-replace : (action : Action) (part : List ℕ) → eqb (numberOfAction action) 1 ≡ false → act action part ≡ part ++ written action
 unfolding act
 act-replace (replace s2) part e = refl
 act-replace single-letter part e = absurd (true≢false e)
@@ -61,10 +61,12 @@ removes-requires c κs = (c .before .before .before .before .before .pre .0 .0, 
 
 returns-3 : tie.Need-returns-3
 returns-3 c =
-    let s = c .before .before .before .before .before .before .before in
+    let tested = c .before .before .before .before in
+    let s = tested .before .before .before in
     let action = ruleAt (s .args .rule) .action in
     let none : length (written action) ≡ 0 = eqb-true _ 0 (sym (c .before .removes .ensures) ∙ c .if3 .taken) in
-    let two = act-replace action (take (s .args .part) (s .args .word .now)) (sym (c .before .before .before .before .before .single .ensures) ∙ c .before .before .before .before .if1 .left) in
+    let two = act-replace action (take (s .args .part) (s .args .word .now))
+    (sym (tested .before .single .ensures) ∙ tested .if1 .left) in
     (sym (two ∙ nothing-behind (take (s .args .part) (s .args .word .now)) (written action) none), s .pre .0 .1)
 
 slice-aggregate-replace : tie.Need-slice-aggregate-replace
@@ -72,16 +74,20 @@ slice-aggregate-replace c = search needs
 
 replace-requires : tie.Need-replace-requires
 unfolding replacementLetters replacementStarts
-replace-requires c κs = let s = c .before .before .before .before .before .before .before .before .before .before in ((s .pre .0 .0, (refl, refl)), s .pre .1)
+replace-requires c κs =
+    let s = c .before .before .before .before .before .before .before .before .before .before in
+    ((s .pre .0 .0, (refl, refl)), s .pre .1)
 
 same-length : tie.Need-same-length
 same-length c = search needs
 
 returns-4 : tie.Need-returns-4
 returns-4 c =
-    let s = c .before .before .before .before .before .before .before .before .before .before .before .before .before in
+    let tested = c .before .before .before .before .before .before .before .before .before .before in
+    let s = tested .before .before .before in
     let action = ruleAt (s .args .rule) .action in
-    let two = act-replace action (take (s .args .part) (s .args .word .now)) (sym (c .before .before .before .before .before .before .before .before .before .before .before .single .ensures) ∙ c .before .before .before .before .before .before .before .before .before .before .if1 .left) in
+    let two = act-replace action (take (s .args .part) (s .args .word .now))
+    (sym (tested .before .single .ensures) ∙ tested .if1 .left) in
     (c .before .before .replace .ensures .0 ∙ sym two, c .before .before .replace .ensures .1)
 
 pub obey-spec : {M : Type 1} → statement M

@@ -6,7 +6,8 @@ use mathlib.Core.Path.{_≡_}
 use mathlib.Core.List.{List, _++_}
 use lib.ListN.{length, take, drop}
 use Rattle.places.specs.Put.{putAt, put-behind}
-use Rattle.words.specs.Tables.{ruleAt, written}
+use Rattle.paper.specs.Groups.{written}
+use Rattle.words.specs.Tables.{ruleAt}
 use Rattle.words.proofs.Columns.{Row, replacement-row}
 use Rattle.words.proofs.obeying.replace.Statement.{statement}
 use Rattle.words.proofs.obeying.replace.Tie as tie
@@ -22,7 +23,8 @@ follows word after letters part k fits e n = rw (e, n) (put-behind word part let
 
 -- the row of the table for the rule
 row-of : (s : tie.Start) → Row (λ rule. written (rule .action)) (s .args .replacements .now) (s .args .starts .now) (s .args .rule)
-row-of s = replacement-row (s .args .rule) (s .args .replacements .now) (s .args .starts .now) (s .pre .0 .0) (s .pre .0 .1 .0) (s .pre .0 .1 .1)
+row-of s =
+    replacement-row (s .args .rule) (s .args .replacements .now) (s .args .starts .now) (s .pre .0 .0) (s .pre .0 .1 .0) (s .pre .0 .1 .1)
 
 shared-slice-read-wide : tie.Need-shared-slice-read-wide
 shared-slice-read-wide c =
