@@ -15,7 +15,7 @@ use Rattle.tables.specs.declared.Ran.the-variants.{Done, Length, Letter,
 use Rattle.tables.specs.declared.runs.Walked.{Walked}
 use Rattle.tables.specs.declared.runs.Walked.the-variants.{Left, Outgrown}
 use Rattle.tables.specs.WalkAnswers.{WalkedAs}
-use Rattle.tables.specs.RanAnswers.{RanAs}
+use Rattle.tables.specs.RunNumbers.{RanAs}
 
 -- a word that is read: of the right length, and of letters only
 pub record Taken (word : List ℕ) : Type 0 where
