@@ -120,14 +120,16 @@ pub record Step : Type 0 where
   pub obeyed : Option Rule
   pub word : List ℕ
 
+abbrev pub stepOf : List ℕ → Option Rule → Step
+stepOf word obeyed = record { obeyed = obeyed; word = result word obeyed }
+
 -- what each group leaves, in their order; a group that is not run obeys no rule. `opened` says whether "the group just before
 -- was run and obeyed a rule that opens".
 unfoldable pub steps : List Turn → Bool → List ℕ → List Step
 steps [] opened word = []
 steps (turn ∷ turns) opened word =
-    let obeyed = cond (runs (turn .gate) opened) (turn .obeys word) none in
-    let left = result word obeyed in
-    record { obeyed = obeyed; word = left } ∷ steps turns (opensNext obeyed) left
+    let step = stepOf word (cond (runs (turn .gate) opened) (turn .obeys word) none) in
+    step ∷ steps turns (opensNext (step .obeyed)) (step .word)
 
 -- what going through groups gives: the word they leave, or that "some group's result is longer than the word's place"
 pub data Reading : Type 0 where

@@ -1,5 +1,5 @@
 -- Paths through the rows of a list of nodes: if a group's nodes are exactly the tails of its endings, a path exists exactly
--- for these, and the table is faithful to the group. Assumes nothing.
+-- for these, and the table is faithful to the group.
 use Prim.Native.Nat.{ℕ}
 use mathlib.Core.Path.{_≡_, sym, ap, _∙_}
 use mathlib.Core.Bool.{true, false, not, cond, false≢true, and-false}
@@ -10,7 +10,8 @@ use lib.Dec.{eqb, lit<}
 use Rattle.paper.specs.Groups.{Rule, same}
 use Rattle.siblings.specs.Layout.{Node, node, sameNode, present, rows}
 use Rattle.paper.specs.Numbered.{numberOf}
-use Rattle.walks.specs.Walk.{firstRule, child, onward, reached, held}
+use Rattle.siblings.specs.Children.{firstRule, child, nodesIn}
+use Rattle.walks.specs.Walk.{onward, reached, held}
 use Rattle.walks.specs.Faithful.{exists, leads, FaithfulGroup}
 use Rattle.paper.specs.Numbered.{firstWith}
 use Rattle.paper.specs.TestLaws.{by-test}
@@ -54,7 +55,7 @@ module _ (root : ℕ) (others ends : List Node) (group number : ℕ) (rules : Li
       (there .later) (there .split) ∙ ends-first tail)
 
   onward-found : (letter : ℕ) (parent : List ℕ)
-      → onward table letter (cond (leads rules parent) (some (found parent)) none)
+      → onward (nodesIn table) letter (cond (leads rules parent) (some (found parent)) none)
       ≡ cond (leads rules (letter ∷ parent)) (some (found (letter ∷ parent))) none
   unfolding onward
   onward-found letter parent =
@@ -67,20 +68,20 @@ module _ (root : ℕ) (others ends : List Node) (group number : ℕ) (rules : Li
       (λ q. rw (p, q)))
 
   -- a path leads to the node of its tail, where there is one
-  reached-found : (tail : List ℕ) → reached table group tail ≡ cond (leads rules tail) (some (found tail)) none
+  reached-found : (tail : List ℕ) → reached (nodesIn table) group tail ≡ cond (leads rules tail) (some (found tail)) none
   unfolding reached leads
   reached-found [] = ap some (sym here)
-  reached-found (letter ∷ parent) = ap (onward table letter) (reached-found parent) ∙ onward-found letter parent
+  reached-found (letter ∷ parent) = ap (onward (nodesIn table) letter) (reached-found parent) ∙ onward-found letter parent
 
-  paths-lead : (tail : List ℕ) → exists (reached table group tail) ≡ leads rules tail
+  paths-lead : (tail : List ℕ) → exists (reached (nodesIn table) group tail) ≡ leads rules tail
   unfolding exists
   paths-lead tail = rw (reached-found tail) (by-test (leads rules tail) (λ p. rw p) (λ p. rw p))
 
-  paths-hold : (tail : List ℕ) → held table (reached table group tail) ≡ firstWith number rules tail
+  paths-hold : (tail : List ℕ) → held (nodesIn table) (reached (nodesIn table) group tail) ≡ firstWith number rules tail
   unfolding held
   paths-hold tail =
       rw (reached-found tail)
       (by-test (leads rules tail) (λ p. rw p (rule-found tail p)) (λ p. rw p (sym (leads-nowhere rules number tail p))))
 
-  pub group-faithful : FaithfulGroup (rows (node root [] ∷ others) ends 0 (node root [] ∷ others)) group number rules
+  pub group-faithful : FaithfulGroup (nodesIn (rows (node root [] ∷ others) ends 0 (node root [] ∷ others))) group number rules
   group-faithful = record { paths = paths-lead; holding = paths-hold }

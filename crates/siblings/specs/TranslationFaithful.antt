@@ -11,6 +11,7 @@ use borrow.Author.Tests.{ne-eqb, eq-eqb}
 use Rattle.paper.specs.Groups.{Group}
 use Rattle.siblings.specs.Layout.{Node, node, sameNode, present, roots, ends, nodesOf, rows, tableOf}
 use Rattle.paper.specs.Numbered.{numberOf}
+use Rattle.siblings.specs.Children.{nodesIn}
 use Rattle.walks.specs.Faithful.{leads, FaithfulFrom, Faithful}
 use Rattle.paper.specs.Numbered.{firstWith}
 use Rattle.siblings.specs.KinLaws.{same-node-refl}
@@ -84,7 +85,7 @@ module _ (nodes rules extra : List Node) (root number : ℕ) (group : Group) (gr
 
 faithful-from : (first : ℕ) (others rules extra : List Node) (root number : ℕ) (groups : List Group)
     → Rest (node first [] ∷ others) rules extra root number groups
-    → FaithfulFrom (rows (node first [] ∷ others) rules 0 (node first [] ∷ others)) root number groups
+    → FaithfulFrom (nodesIn (rows (node first [] ∷ others) rules 0 (node first [] ∷ others))) root number groups
 unfolding FaithfulFrom
 faithful-from first others rules extra root number [] rest = tt
 faithful-from first others rules extra root number (group ∷ groups) rest =
@@ -115,17 +116,17 @@ whole-sheet groups extra e =
       first-rules = λ group h tail. refl;
     }
 
-some-groups : (group : Group) (groups : List Group) → FaithfulFrom (tableOf (group ∷ groups)) 0 1 (group ∷ groups)
+some-groups : (group : Group) (groups : List Group) → FaithfulFrom (nodesIn (tableOf (group ∷ groups))) 0 1 (group ∷ groups)
 unfolding tableOf nodesOf roots
 some-groups group groups =
     let all = group ∷ groups in
     let more = grown-extends (roots 0 all) (ends 0 all) in
     let rest = whole-sheet all (more .extra) (more .after) in
-    subst (λ (nodes : List Node). FaithfulFrom (rows nodes (ends 0 all) 0 nodes) 0 1 all) (sym (more .after))
+    subst (λ (nodes : List Node). FaithfulFrom (nodesIn (rows nodes (ends 0 all) 0 nodes)) 0 1 all) (sym (more .after))
     (faithful-from 0 (roots 1 groups ++ more .extra) (ends 0 all) (more .extra) 0 1 all
     (subst (λ (nodes : List Node). Rest nodes (ends 0 all) (more .extra) 0 1 all) (more .after) rest))
 
-pub translation-faithful : (groups : List Group) → Faithful (tableOf groups) groups
+pub translation-faithful : (groups : List Group) → Faithful (nodesIn (tableOf groups)) groups
 unfolding Faithful FaithfulFrom
 translation-faithful [] = tt
 translation-faithful (group ∷ groups) = some-groups group groups

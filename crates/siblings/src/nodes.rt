@@ -3,7 +3,7 @@
 ghost use mathlib.Core.Path.{_≡_};
 ghost use Prim.Native.Nat.{_<_};
 ghost use lib.ListN.{getD};
-ghost use Rattle.walks.specs.Walk.{child as childOf};
+ghost use Rattle.siblings.specs.Children.{child as childOf};
 
 // The number at a place of the table.
 pub fn number_at(table: &[u16], place: usize) -> usize

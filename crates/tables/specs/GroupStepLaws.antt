@@ -1,4 +1,4 @@
--- What one group does to a word, as a run takes it: the word's letters stand first in its place. Assumes nothing.
+-- What one group does to a word, as a run takes it: the word's letters stand first in its place.
 use Prim.Native.Nat.{ℕ, _+_, _-_, _≤_, _<_}
 use mathlib.Core.Path.{_≡_, refl, sym, _∙_}
 use mathlib.Core.Bool.{Bool, true, false, false≢true}
@@ -11,54 +11,55 @@ use lib.Seq.{length-take-le, take-take}
 use Rattle.places.specs.Put.{putAt, put-behind}
 use borrow.Author.Tests.{le-leb, lt-leb, eq-eqb, ne-eqb}
 use Rattle.paper.specs.Letters.{inward}
-use Rattle.paper.specs.Groups.{replace, single-letter, Rule, Result, before, act, resultOf}
-use Rattle.walks.specs.Walk.{deepest, walked, walkGroup}
+use Rattle.paper.specs.Groups.{replace, single-letter, Rule, before, act, opensNext, Step}
+use Rattle.paper.specs.Groups.{result as resultOf}
+use Rattle.walks.specs.Walk.{Nodes, deepest, walked, walkGroup}
 use Rattle.walks.specs.PickLaws.{walked-picks}
 use Rattle.sheets.specs.RulePlaces.{RuleFacts}
 use Rattle.tables.specs.TryLaws.{picked, Some}
 
 -- what a step leaves: whether the group's result fits the place, and if so the letters that stand first in it
-pub record Stepped (result : Result) (place : ℕ) (after : List ℕ) (size : ℕ) (opened fits : Bool) : Type 0 where
-  pub fits-is : fits ≡ leb (length (result .word)) place
-  pub letters : fits ≡ true → (take size after ≡ result .word) × (size ≤ place) × (opened ≡ result .opened)
+pub record Stepped (step : Step) (place : ℕ) (after : List ℕ) (size : ℕ) (opened fits : Bool) : Type 0 where
+  pub fits-is : fits ≡ leb (length (step .word)) place
+  pub letters : fits ≡ true → (take size after ≡ step .word) × (size ≤ place) × (opened ≡ opensNext (step .obeyed))
 
 -- what a rule leaves that was obeyed, whose record in the sheet has these numbers: less by one letter, more by its letters, or a
 -- result that does not fit the place
-pub record Obeyed (result : Result) (sheet place : List ℕ) (size at a o s1 s2 : ℕ) : Type 0 where
+pub record Obeyed (step : Step) (sheet place : List ℕ) (size at a o s1 s2 : ℕ) : Type 0 where
   pub inside : at + 8 + s1 + s2 ≤ length sheet
-  pub single : (a ≡ 0 → ⊥) → Stepped result (length place) place (size - s1 - 1) (eqb o 1) true
+  pub single : (a ≡ 0 → ⊥) → Stepped step (length place) place (size - s1 - 1) (eqb o 1) true
   pub replaced : (after : List ℕ) → a ≡ 0 → s2 ≤ length place - (size - s1)
       → after ≡ putAt place (size - s1) (take s2 (drop (at + 8 + s1) sheet))
-      → Stepped result (length place) after (size - s1 + s2) (eqb o 1) true
-  pub outgrown : (opened : Bool) → a ≡ 0 → length place - (size - s1) < s2 → Stepped result (length place) place size opened false
+      → Stepped step (length place) after (size - s1 + s2) (eqb o 1) true
+  pub outgrown : (opened : Bool) → a ≡ 0 → length place - (size - s1) < s2 → Stepped step (length place) place size opened false
 
-module _ (table : List ℕ) (root number : ℕ) (place : List ℕ) (size : ℕ) (rules : List Rule) (found : ℕ) (within : size ≤ length place)
-    (deep : found ≡ deepest table root (inward (take size place))) where
+module _ (nodes : Nodes) (root number : ℕ) (place : List ℕ) (size : ℕ) (rules : List Rule) (found : ℕ) (within : size ≤ length place)
+    (deep : found ≡ deepest nodes root (inward (take size place))) where
   abbrev word : List ℕ
   word = take size place
 
-  abbrev result : Result
-  result = walkGroup table root number word rules
+  abbrev step : Step
+  step = walkGroup nodes root number word rules
 
   long : length word ≡ size
   long = length-take-le size place within
 
   -- no rule is obeyed
-  unchanged : walked table root number word rules ≡ none → Stepped result (length place) place size false true
-  unfolding walkGroup resultOf
+  unchanged : walked nodes root number word rules ≡ none → Stepped step (length place) place size false true
+  unfolding resultOf opensNext
   unchanged e =
       rw e (record { fits-is = sym (le-leb (length word) (length place) (omega (arith, long))); letters = λ t. (refl, within, refl) })
 
-  pub step-none : found ≡ 0 → Stepped result (length place) place size false true
-  step-none e = unchanged (walked-picks table root number word rules found deep ∙ rw (eq-eqb found 0 e))
+  pub step-none : found ≡ 0 → Stepped step (length place) place size false true
+  step-none e = unchanged (walked-picks nodes root number word rules found deep ∙ rw (eq-eqb found 0 e))
 
-  pub step-turned-down : (found ≡ 0 → ⊥) → picked table root found word number rules ≡ none → Stepped result (length place) place size false true
+  pub step-turned-down : (found ≡ 0 → ⊥) → picked nodes root found word number rules ≡ none → Stepped step (length place) place size false true
   unfolding picked
-  step-turned-down e p = unchanged (walked-picks table root number word rules found deep ∙ rw (ne-eqb found 0 e, p))
+  step-turned-down e p = unchanged (walked-picks nodes root number word rules found deep ∙ rw (ne-eqb found 0 e, p))
 
   -- a rule is obeyed
   module _ (sheet : List ℕ) (at c a o s1 s2 : ℕ) (one : Rule) (facts : RuleFacts sheet at c a o s1 s2 one) (deeper : found ≡ 0 → ⊥)
-      (is-picked : picked table root found word number rules ≡ some one) where
+      (is-picked : picked nodes root found word number rules ≡ some one) where
     abbrev part : ℕ
     part = size - s1
 
@@ -71,18 +72,22 @@ module _ (table : List ℕ) (root number : ℕ) (place : List ℕ) (size : ℕ) 
         let left : length word - length (one .ending) ≡ size - s1 = omega (arith, long, facts .ending-long) in
         rw left (take-take (size - s1) size place (omega arith))
 
-    obeyed-it : walked table root number word rules ≡ some one
+    obeyed-it : walked nodes root number word rules ≡ some one
     unfolding picked
-    obeyed-it = walked-picks table root number word rules found deep ∙ rw (ne-eqb found 0 deeper, is-picked)
+    obeyed-it = walked-picks nodes root number word rules found deep ∙ rw (ne-eqb found 0 deeper, is-picked)
 
-    given : result ≡ record { word = act (one .action) (take part place); opened = eqb o 1 }
-    unfolding walkGroup resultOf
-    given = rw (obeyed-it, before-it, facts .opens-is)
+    given : step ≡ record { obeyed = some one; word = act (one .action) (take part place) }
+    unfolding resultOf
+    given = rw (obeyed-it, before-it)
+
+    opening : eqb o 1 ≡ opensNext (some one)
+    unfolding opensNext
+    opening = sym (facts .opens-is)
 
     part-long : length (take part place) ≡ part
     part-long = length-take-le part place (omega arith)
 
-    step-single : (a ≡ 0 → ⊥) → Stepped result (length place) place (part - 1) (eqb o 1) true
+    step-single : (a ≡ 0 → ⊥) → Stepped step (length place) place (part - 1) (eqb o 1) true
     unfolding act
     step-single e =
         let single : one .action ≡ single-letter = facts .action-is ∙ rw (ne-eqb a 0 e) in
@@ -92,7 +97,7 @@ module _ (table : List ℕ) (root number : ℕ) (place : List ℕ) (size : ℕ) 
         rw (given, letters-left)
         (record {
           fits-is = sym (le-leb (length (take (part - 1) place)) (length place) (omega (arith, length-take-le (part - 1) place (omega arith))));
-          letters = λ t. (refl, omega arith, refl);
+          letters = λ t. (refl, omega arith, opening);
         })
 
     replaced : a ≡ 0 → act (one .action) (take part place) ≡ take part place ++ letters-new
@@ -106,17 +111,17 @@ module _ (table : List ℕ) (root number : ℕ) (place : List ℕ) (size : ℕ) 
     new-long = omega (arith, length-append (take part place) letters-new, part-long, letters-long)
 
     step-replace : (after : List ℕ) → a ≡ 0 → s2 ≤ length place - part → after ≡ putAt place part letters-new
-        → Stepped result (length place) after (part + s2) (eqb o 1) true
+        → Stepped step (length place) after (part + s2) (eqb o 1) true
     step-replace after e room stored =
         let size-is : part + s2 ≡ part + length letters-new = omega (arith, letters-long) in
         let put = put-behind place part letters-new (omega (arith, letters-long)) in
         rw (given, replaced e)
         (record {
           fits-is = sym (le-leb (length (take part place ++ letters-new)) (length place) (omega (arith, new-long)));
-          letters = λ t. (rw (stored, size-is) put, omega arith, refl);
+          letters = λ t. (rw (stored, size-is) put, omega arith, opening);
         })
 
-    step-outgrown : (opened : Bool) → a ≡ 0 → length place - part < s2 → Stepped result (length place) place size opened false
+    step-outgrown : (opened : Bool) → a ≡ 0 → length place - part < s2 → Stepped step (length place) place size opened false
     step-outgrown opened e room =
         rw (given, replaced e)
         (record {
@@ -124,9 +129,9 @@ module _ (table : List ℕ) (root number : ℕ) (place : List ℕ) (size : ℕ) 
           letters = λ t. absurd (false≢true t);
         })
 
-    all-ways : Obeyed result sheet place size at a o s1 s2
+    all-ways : Obeyed step sheet place size at a o s1 s2
     all-ways = record { inside = facts .inside; single = step-single; replaced = step-replace; outgrown = step-outgrown }
 
-  pub obeyed : (found ≡ 0 → ⊥) → (sheet : List ℕ) (at a o s1 s2 : ℕ) → Some sheet (picked table root found word number rules) at a o s1 s2
-      → Obeyed result sheet place size at a o s1 s2
+  pub obeyed : (found ≡ 0 → ⊥) → (sheet : List ℕ) (at a o s1 s2 : ℕ) → Some sheet (picked nodes root found word number rules) at a o s1 s2
+      → Obeyed step sheet place size at a o s1 s2
   obeyed deeper sheet at a o s1 s2 it = all-ways sheet at (it .condition) a o s1 s2 (it .one) (it .facts) deeper (it .is-one)

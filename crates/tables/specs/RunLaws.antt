@@ -14,6 +14,7 @@ use Rattle.sheets.specs.Apart.{apart}
 use Rattle.sheets.specs.Sheets.{Sheet, refused, accepted, readSheet}
 use Rattle.paper.specs.Nodes.{nodeCount}
 use Rattle.siblings.specs.Layout.{tableOf}
+use Rattle.siblings.specs.Children.{nodesIn}
 use Rattle.walks.specs.Walk.{walkWord}
 use Rattle.siblings.specs.Translations.{laidOut, translationOf, translation}
 use Rattle.sheets.specs.Accepted.{groupsIn, groupsOf}
@@ -103,6 +104,6 @@ module _ (sheet own table word : List ℕ) where
       run-other t = wrong (right-by ∙ t)
 
       pub run-right : (ran : Ran) (left : List ℕ) → test ≡ true
-          → RanAs (wordOutcome (walkWord (take (4 * nodes) table) (groupsOf sheet)) word) ran left → RanAs (runOutcome sheet table word) ran left
+          → RanAs (wordOutcome (walkWord (nodesIn (take (4 * nodes) table)) (groupsOf sheet)) word) ran left → RanAs (runOutcome sheet table word) ran left
       unfolding runOutcome runOf
       run-right ran left t ran-as = rw (run-accepted .0, right-by ∙ t, ← run-accepted .1) ran-as

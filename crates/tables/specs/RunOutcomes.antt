@@ -14,6 +14,7 @@ use Rattle.paper.specs.Nodes.{nodeCount}
 use Rattle.sheets.specs.Bytes.{sheetOf}
 use Rattle.sheets.specs.ShippedSheet.{reads}
 use Rattle.siblings.specs.Layout.{tableOf}
+use Rattle.siblings.specs.Children.{nodesIn}
 use Rattle.walks.specs.Walk.{walkWord}
 use Rattle.siblings.specs.Translations.{laidOut}
 use Rattle.paper.specs.GroupsLaws.{same-equal, same-itself}
@@ -28,7 +29,7 @@ rightTable groups table = same (take (4 * nodeCount groups) table) (tableOf grou
 unfoldable pub runOf : Sheet → List ℕ → List ℕ → Outcome
 runOf (faulty place) table word = record { number = 3; value = place; place = word }
 runOf (accepted groups) table word =
-    cond (rightTable groups table) (wordOutcome (walkWord (take (4 * nodeCount groups) table) groups) word) (refused 7 word)
+    cond (rightTable groups table) (wordOutcome (walkWord (nodesIn (take (4 * nodeCount groups) table)) groups) word) (refused 7 word)
 
 -- what a run of a table on a word gives
 unfoldable pub runOutcome : List ℕ → List ℕ → List ℕ → Outcome

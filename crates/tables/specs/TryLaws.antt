@@ -1,4 +1,4 @@
--- Trying the rules of a group in sheet order, record by record. Assumes nothing.
+-- Trying the rules of a group in sheet order, record by record.
 use Prim.Native.Nat.{ℕ, suc, _+_, _-_, _≤_, _<_}
 use mathlib.Core.Path.{_≡_, refl, sym, ap, _∙_}
 use mathlib.Core.Bool.{Bool, true, false, _&&_, and-false}
@@ -15,7 +15,7 @@ use Rattle.sheets.specs.Records.{body, rule}
 use Rattle.sheets.specs.Sheets.{Rest, faulty-at, holding, readRest}
 use Rattle.sheets.specs.Answers.{recordIn}
 use Rattle.sheets.specs.declared.records.Record.the-variants.{Group as GroupRecord, Rule as RuleRecord, End as EndRecord}
-use Rattle.walks.specs.Walk.{reached, held}
+use Rattle.walks.specs.Walk.{Nodes, reached, held}
 use Rattle.walks.specs.PickLaws.{pick}
 use Rattle.sheets.specs.SheetPlaces.{Holding, RuleNext, group-next, rule-next, end-next}
 use Rattle.sheets.specs.RulePlaces.{RuleFacts, rule-facts}
@@ -38,14 +38,14 @@ Readable sheet at groups rules = restAt sheet at groups rules
     ≡ holding (rulesOf (restAt sheet at groups rules)) (groupsAfter (restAt sheet at groups rules))
 
 -- whether a rule of this number, condition and ending is the one that a walk which found `found` obeys
-unfoldable pub obeys : List ℕ → ℕ → ℕ → List ℕ → ℕ → ℕ → List ℕ → Bool
-obeys table root found word number condition s1 =
-    leb found number && (eqb found (held table (reached table root s1)) && holds condition (before word s1))
+unfoldable pub obeys : Nodes → ℕ → ℕ → List ℕ → ℕ → ℕ → List ℕ → Bool
+obeys nodes root found word number condition s1 =
+    leb found number && (eqb found (held nodes (reached nodes root s1)) && holds condition (before word s1))
 
 -- the first such rule, of rules that are counted from `number`
-unfoldable pub picked : List ℕ → ℕ → ℕ → List ℕ → ℕ → List Rule → Option Rule
-picked table root found word number rules =
-    pick (λ rule. eqb found (held table (reached table root (rule .ending)))) (λ rule. holds (rule .condition)
+unfoldable pub picked : Nodes → ℕ → ℕ → List ℕ → ℕ → List Rule → Option Rule
+picked nodes root found word number rules =
+    pick (λ rule. eqb found (held nodes (reached nodes root (rule .ending)))) (λ rule. holds (rule .condition)
     (before word (rule .ending))) found number rules
 
 -- what is handed back of the rule that was picked: the place of its record, or 0, and its numbers
@@ -53,40 +53,40 @@ abbrev pub PickedAs : List ℕ → Option Rule → ℕ → ℕ → ℕ → ℕ �
 PickedAs sheet none place action opens s1 s2 = place ≡ 0
 PickedAs sheet (some one) place action opens s1 s2 = (0 < place) × (condition : ℕ) × RuleFacts sheet place condition action opens s1 s2 one
 
-pub record Trying (table : List ℕ) (root found : ℕ) (word sheet : List ℕ) (groups start first place rules : ℕ) : Type 0 where
+pub record Trying (nodes : Nodes) (root found : ℕ) (word sheet : List ℕ) (groups start first place rules : ℕ) : Type 0 where
   pub list : List Rule
   pub more : List Group
   pub holds-here : Holding sheet place groups rules list more
-  pub decides : picked table root found word (rules + 1) list ≡ picked table root found word (first + 1) (rulesOf (restAt sheet start groups first))
+  pub decides : picked nodes root found word (rules + 1) list ≡ picked nodes root found word (first + 1) (rulesOf (restAt sheet start groups first))
 
-pub trying-start : (table : List ℕ) (root found : ℕ) (word sheet : List ℕ) (groups start first : ℕ) → Readable sheet start groups first
-    → Trying table root found word sheet groups start first start first
-trying-start table root found word sheet groups start first is =
+pub trying-start : (nodes : Nodes) (root found : ℕ) (word sheet : List ℕ) (groups start first : ℕ) → Readable sheet start groups first
+    → Trying nodes root found word sheet groups start first start first
+trying-start nodes root found word sheet groups start first is =
     record { list = rulesOf (restAt sheet start groups first); more = groupsAfter (restAt sheet start groups first); holds-here = record { rest-is = is }; decides = refl }
 
-picked-none : (table : List ℕ) (root found : ℕ) (word : List ℕ) (number : ℕ) (list : List Rule) → list ≡ []
-    → picked table root found word number list ≡ none
+picked-none : (nodes : Nodes) (root found : ℕ) (word : List ℕ) (number : ℕ) (list : List Rule) → list ≡ []
+    → picked nodes root found word number list ≡ none
 unfolding picked pick
-picked-none table root found word number list e = rw e
+picked-none nodes root found word number list e = rw e
 
-module _ (table : List ℕ) (root found : ℕ) (word : List ℕ) (number : ℕ) (list : List Rule) (one : Rule) (more : List Rule)
+module _ (nodes : Nodes) (root found : ℕ) (word : List ℕ) (number : ℕ) (list : List Rule) (one : Rule) (more : List Rule)
     (split : list ≡ one ∷ more) where
-  picked-here : obeys table root found word number (one .condition) (one .ending) ≡ true → picked table root found word number list ≡ some one
+  picked-here : obeys nodes root found word number (one .condition) (one .ending) ≡ true → picked nodes root found word number list ≡ some one
   unfolding picked pick obeys
   picked-here t = rw (split, t)
 
-  picked-next : obeys table root found word number (one .condition) (one .ending) ≡ false
-      → picked table root found word number list ≡ picked table root found word (suc number) more
+  picked-next : obeys nodes root found word number (one .condition) (one .ending) ≡ false
+      → picked nodes root found word number list ≡ picked nodes root found word (suc number) more
   unfolding picked pick obeys
   picked-next t = rw (split, t)
 
-module _ {table : List ℕ} {root found : ℕ} {word sheet : List ℕ} {groups start first place rules : ℕ}
-    (state : Trying table root found word sheet groups start first place rules) where
+module _ {nodes : Nodes} {root found : ℕ} {word sheet : List ℕ} {groups start first place rules : ℕ}
+    (state : Trying nodes root found word sheet groups start first place rules) where
   abbrev answer : Option Rule
-  answer = picked table root found word (first + 1) (rulesOf (restAt sheet start groups first))
+  answer = picked nodes root found word (first + 1) (rulesOf (restAt sheet start groups first))
 
   none-picked : state .list ≡ [] → answer ≡ none
-  none-picked e = sym (state .decides) ∙ picked-none table root found word (rules + 1) (state .list) e
+  none-picked e = sym (state .decides) ∙ picked-none nodes root found word (rules + 1) (state .list) e
 
   pub trying-group : {number : ℕ} → recordIn (drop place sheet) ≡ GroupRecord number → answer ≡ none
   trying-group e = none-picked (group-next (state .holds-here) e .none-before)
@@ -103,10 +103,10 @@ module _ {table : List ℕ} {root found : ℕ} {word sheet : List ℕ} {groups s
 
     -- how the rule that stands here was judged
     abbrev Judged : Bool → Type 0
-    Judged judged = judged ≡ obeys table root found word (rules + 1) c (take s1 (drop (place + 8) sheet))
+    Judged judged = judged ≡ obeys nodes root found word (rules + 1) c (take s1 (drop (place + 8) sheet))
 
     tested : {judged : Bool} (test : Bool) → Judged judged → judged ≡ test
-        → obeys table root found word (rules + 1) (next .one .condition) (next .one .ending) ≡ test
+        → obeys nodes root found word (rules + 1) (next .one .condition) (next .one .ending) ≡ test
     tested test is t =
         let same-condition : next .one .condition ≡ c = ap (λ (one : Rule). one .condition) (next .is-here) ∙ facts .condition-is in
         rw (same-condition, ← next .ending-here) (sym is ∙ t)
@@ -114,34 +114,34 @@ module _ {table : List ℕ} {root found : ℕ} {word sheet : List ℕ} {groups s
     pub trying-here : {judged : Bool} → Judged judged → judged ≡ true → answer ≡ some (rule (body (drop place sheet)))
     trying-here is t =
         sym (state .decides)
-        ∙ picked-here table root found word (rules + 1) (state .list) (next .one) (next .rules-then) (next .rule-first) (tested true is t)
+        ∙ picked-here nodes root found word (rules + 1) (state .list) (next .one) (next .rules-then) (next .rule-first) (tested true is t)
         ∙ ap some (next .is-here)
 
     pub trying-next : {judged : Bool} → Judged judged → judged ≡ false
-        → Trying table root found word sheet groups start first (place + (8 + s1 + s2)) (rules + 1)
+        → Trying nodes root found word sheet groups start first (place + (8 + s1 + s2)) (rules + 1)
     trying-next is t =
-        let passed = picked-next table root found word (rules + 1) (state .list) (next .one) (next .rules-then) (next .rule-first) (tested false is t) in
+        let passed = picked-next nodes root found word (rules + 1) (state .list) (next .one) (next .rules-then) (next .rule-first) (tested false is t) in
         record {
           list = next .rules-then;
           more = state .more;
           holds-here = next .holds;
-          decides = ap (λ (n : ℕ). picked table root found word n (next .rules-then)) (add-one (rules + 1)) ∙ sym passed ∙ state .decides;
+          decides = ap (λ (n : ℕ). picked nodes root found word n (next .rules-then)) (add-one (rules + 1)) ∙ sym passed ∙ state .decides;
         }
 
 -- One rule, test by test
 
-module _ (table : List ℕ) (root found : ℕ) (word : List ℕ) (number condition : ℕ) (s1 : List ℕ) where
-  pub obeys-early : number < found → obeys table root found word number condition s1 ≡ false
+module _ (nodes : Nodes) (root found : ℕ) (word : List ℕ) (number condition : ℕ) (s1 : List ℕ) where
+  pub obeys-early : number < found → obeys nodes root found word number condition s1 ≡ false
   unfolding obeys
   obeys-early h = rw (lt-leb found number h)
 
-  pub obeys-other : (there : ℕ) → there ≡ held table (reached table root s1) → (found ≡ there → ⊥)
-      → obeys table root found word number condition s1 ≡ false
+  pub obeys-other : (there : ℕ) → there ≡ held nodes (reached nodes root s1) → (found ≡ there → ⊥)
+      → obeys nodes root found word number condition s1 ≡ false
   unfolding obeys
   obeys-other there e h = rw (← e, ne-eqb found there h, and-false)
 
-  pub obeys-judged : (there : ℕ) (answer : Bool) (part : ℕ) → found ≤ number → there ≡ held table (reached table root s1) → found ≡ there
-      → part ≡ length word - length s1 → answer ≡ holds condition (take part word) → answer ≡ obeys table root found word number condition s1
+  pub obeys-judged : (there : ℕ) (answer : Bool) (part : ℕ) → found ≤ number → there ≡ held nodes (reached nodes root s1) → found ≡ there
+      → part ≡ length word - length s1 → answer ≡ holds condition (take part word) → answer ≡ obeys nodes root found word number condition s1
   unfolding obeys before
   obeys-judged there answer part h e f p j = rw (le-leb found number h, ← e, eq-eqb found there f, ← p) j
 

@@ -2,6 +2,7 @@
 ghost use mathlib.Core.Path.{_≡_};
 ghost use Prim.Native.Nat.{_<_};
 ghost use Rattle.paper.specs.Letters.{inward};
+ghost use Rattle.siblings.specs.Children.{nodesIn};
 ghost use Rattle.walks.specs.Walk.{deepest as deepestOf, reached, held};
 use numbers::wide;
 use siblings::nodes::child;
@@ -10,7 +11,7 @@ use siblings::nodes::number_at;
 // The rule that the deepest node passed holds, of those that hold one, when the word's letters are followed from the root.
 pub(crate) fn deepest(table: &[u16], root: usize, word: &[u8]) -> usize
     requires { ⌜ root < 65536 ⌝ }
-    ensures { λ r. ⌜ r ≡ deepestOf (now (table .entry)) root (inward (now (word .entry))) ⌝ }
+    ensures { λ r. ⌜ r ≡ deepestOf (nodesIn (now (table .entry))) root (inward (now (word .entry))) ⌝ }
 {
     let mut at = root;
     let mut found = number_at(table, 4 * root + 3);
@@ -32,7 +33,7 @@ pub(crate) fn deepest(table: &[u16], root: usize, word: &[u8]) -> usize
 // The rule that the node holds to which an ending's letters lead from the root, 0 for none.
 pub(crate) fn held_at(table: &[u16], root: usize, ending: &[u8]) -> usize
     requires { ⌜ root < 65536 ⌝ }
-    ensures { λ r. ⌜ r ≡ held (now (table .entry)) (reached (now (table .entry)) root (now (ending .entry))) ⌝ }
+    ensures { λ r. ⌜ r ≡ held (nodesIn (now (table .entry))) (reached (nodesIn (now (table .entry))) root (now (ending .entry))) ⌝ }
 {
     let mut at = root;
     let mut left = ending.len();

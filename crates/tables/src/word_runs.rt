@@ -1,5 +1,6 @@
 // A run on a word: the tests of the word, the walk, and what is left in the word's place.
 ghost use Rattle.paper.specs.Words.{wordOutcome};
+ghost use Rattle.siblings.specs.Children.{nodesIn};
 ghost use Rattle.walks.specs.Walk.{walkWord};
 ghost use Rattle.sheets.specs.Accepted.{groupsOf};
 ghost use Rattle.sheets.specs.Accepted.{Accepted};
@@ -11,7 +12,7 @@ use crate::runs::walk_groups;
 // A run on a word, whose table is known to be the sheet's: "1, 2, 4 for a word".
 pub(crate) fn word_run(sheet: &[u8], table: &[u16], word: &mut [u8]) -> Ran
     requires { ⌜ Accepted (now sheet) ⌝ }
-    ensures { λ r. ⌜ RanAs (wordOutcome (walkWord (now (table .entry)) (groupsOf (now (sheet .entry)))) (now (word .entry))) r (now (word .exit)) ⌝ }
+    ensures { λ r. ⌜ RanAs (wordOutcome (walkWord (nodesIn (now (table .entry))) (groupsOf (now (sheet .entry)))) (now (word .entry))) r (now (word .exit)) ⌝ }
 {
     let size = word.len();
     if size == 0 {

@@ -1,14 +1,13 @@
 -- The deepest node passed that holds a rule: the walk finds what the longest tail of the word that holds one holds.
--- Assumes nothing.
 use Prim.Native.Nat.{ℕ}
 use mathlib.Core.Path.{_≡_, refl, sym, ap, _∙_}
 use mathlib.Core.Bool.{true, false, cond}
-use mathlib.Core.List.{List, [], _∷_, reverse, reverseAux, reverse-reverse}
+use mathlib.Core.List.{List, [], _∷_, _++_, reverse, reverseAux, reverseAux-eq, reverse-reverse}
 use mathlib.Core.Option.{none, some}
 use lib.Dec.{eqb}
 use borrow.Author.Tests.{eqb-true}
 use Rattle.paper.specs.Letters.{inward}
-use Rattle.walks.specs.Walk.{firstRule, child, deepest, onward, reached, held}
+use Rattle.walks.specs.Walk.{Nodes, deepest, onward, reached, held}
 use Rattle.paper.specs.TestLaws.{by-test}
 
 -- the first number that is not 0, of the word's tails from the longest on
@@ -39,55 +38,57 @@ longest-past h [] tail e = longest-here h tail ∙ rw (e [])
 longest-past h (letter ∷ inner) tail e =
     longest-past h inner (letter ∷ tail) (λ more. e (letter ∷ more)) ∙ longest-here h tail ∙ rw (e [])
 
--- no path goes on where there is none
-pub reached-none : (table : List ℕ) (root : ℕ) (more tail : List ℕ) → reached table root tail ≡ none
-    → reached table root (reverseAux more tail) ≡ none
+-- no longer path exists where this one does not
+pub reached-nowhere :
+    (nodes : Nodes) (root : ℕ) (front tail : List ℕ) → reached nodes root tail ≡ none → reached nodes root (front ++ tail) ≡ none
 unfolding reached onward
-reached-none table root [] tail e = e
-reached-none table root (letter ∷ more) tail e = reached-none table root more (letter ∷ tail) (rw e)
+reached-nowhere nodes root [] tail e = e
+reached-nowhere nodes root (one ∷ front) tail e = rw (reached-nowhere nodes root front tail e)
 
-module _ (table : List ℕ) (root : ℕ) where
-  heldOf : List ℕ → ℕ
-  heldOf tail = held table (reached table root tail)
+module _ (nodes : Nodes) (root : ℕ) where
+  held-by : List ℕ → ℕ
+  held-by tail = held nodes (reached nodes root tail)
 
-  held-at : (tail : List ℕ) (at : ℕ) → reached table root tail ≡ some at
-      → longestIn heldOf tail ≡ cond (eqb (firstRule table at) 0) (shorterIn heldOf tail) (firstRule table at)
-  unfolding held heldOf
+  held-at : (tail : List ℕ) (at : ℕ) → reached nodes root tail ≡ some at
+      → longestIn held-by tail ≡ cond (eqb (nodes .rule at) 0) (shorterIn held-by tail) (nodes .rule at)
+  unfolding held held-by
   held-at tail at e =
-      let here : heldOf tail ≡ firstRule table at = rw e in
-      longest-here heldOf tail ∙ rw here
+      let here : held-by tail ≡ nodes .rule at = rw e in
+      longest-here held-by tail ∙ rw here
 
-  child-missing : (letter : ℕ) (tail : List ℕ) (at : ℕ) → reached table root tail ≡ some at → eqb (child table at letter) 0 ≡ true
-      → reached table root (letter ∷ tail) ≡ none
+  child-missing : (letter : ℕ) (tail : List ℕ) (at : ℕ) → reached nodes root tail ≡ some at → eqb (nodes .child at letter) 0 ≡ true
+      → reached nodes root (letter ∷ tail) ≡ none
   unfolding reached onward
   child-missing letter tail at e p = rw (e, onward, p)
 
-  child-there : (letter : ℕ) (tail : List ℕ) (at : ℕ) → reached table root tail ≡ some at → eqb (child table at letter) 0 ≡ false
-      → reached table root (letter ∷ tail) ≡ some (child table at letter)
+  child-there : (letter : ℕ) (tail : List ℕ) (at : ℕ) → reached nodes root tail ≡ some at → eqb (nodes .child at letter) 0 ≡ false
+      → reached nodes root (letter ∷ tail) ≡ some (nodes .child at letter)
   unfolding reached onward
   child-there letter tail at e p = rw (e, onward, p)
 
-  deepest-from : (inner tail : List ℕ) (at : ℕ) → reached table root tail ≡ some at
-      → longestIn heldOf (reverseAux inner tail) ≡ cond (eqb (deepest table at inner) 0) (shorterIn heldOf tail) (deepest table at inner)
-  unfolding deepest held heldOf shorterIn
+  deepest-from : (inner tail : List ℕ) (at : ℕ) → reached nodes root tail ≡ some at
+      → longestIn held-by (reverseAux inner tail) ≡ cond (eqb (deepest nodes at inner) 0) (shorterIn held-by tail) (deepest nodes at inner)
+  unfolding deepest held held-by shorterIn
   deepest-from [] tail at e = held-at tail at e
   deepest-from (letter ∷ inner) tail at e =
-      by-test (eqb (child table at letter) 0)
+      by-test (eqb (nodes .child at letter) 0)
       (λ p.
       let missing = child-missing letter tail at e p in
-      let past = longest-past heldOf inner (letter ∷ tail) (λ more. ap (held table) (reached-none table root more (letter ∷ tail) missing)) in
+      let nowhere : (more : List ℕ) → reached nodes root (reverseAux more (letter ∷ tail)) ≡ none
+      = λ more. ap (reached nodes root) (reverseAux-eq more (letter ∷ tail)) ∙ reached-nowhere nodes root (reverse more) _ missing in
+      let past = longest-past held-by inner (letter ∷ tail) (λ more. ap (held nodes) (nowhere more)) in
       rw p (past ∙ held-at tail at e))
       (λ p.
-      let deeper = deepest-from inner (letter ∷ tail) (child table at letter) (child-there letter tail at e p) in
-      rw p (deeper ∙ by-test (eqb (deepest table (child table at letter) inner) 0)
+      let deeper = deepest-from inner (letter ∷ tail) (nodes .child at letter) (child-there letter tail at e p) in
+      rw p (deeper ∙ by-test (eqb (deepest nodes (nodes .child at letter) inner) 0)
       (λ q. rw q (held-at tail at e))
       (λ q. rw (q, q))))
 
-  pub deepest-longest : (word : List ℕ) → deepest table root (inward word) ≡ longestIn (λ tail. held table (reached table root tail)) word
-  unfolding inward reached shorterIn heldOf
+  pub deepest-longest : (word : List ℕ) → deepest nodes root (inward word) ≡ longestIn (λ tail. held nodes (reached nodes root tail)) word
+  unfolding inward reached shorterIn held-by
   deepest-longest word =
       let whole = deepest-from (reverse word) [] root refl in
       let turned = rw (reverse-reverse word) at whole in
-      by-test (eqb (deepest table root (reverse word)) 0)
-      (λ p. eqb-true (deepest table root (reverse word)) 0 p ∙ sym (rw p at turned))
+      by-test (eqb (deepest nodes root (reverse word)) 0)
+      (λ p. eqb-true (deepest nodes root (reverse word)) 0 p ∙ sym (rw p at turned))
       (λ p. sym (rw p at turned))

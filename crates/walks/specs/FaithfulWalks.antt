@@ -1,19 +1,19 @@
--- Any table that is faithful to groups walks as the groups are read. Assumes nothing.
+-- Nodes that are faithful to groups are walked as the groups are read.
 use Prim.Native.Nat.{ℕ, suc, _+_, _-_, _≤_, _<_}
-use mathlib.Core.Path.{_≡_, refl, sym, ap, _∙_}
-use mathlib.Core.Bool.{Bool, false}
-use mathlib.Core.List.{List, [], _∷_}
-use mathlib.Core.Option.{some}
+use mathlib.Core.Path.{_≡_, refl, sym, ap, ap₂, fun-ext, _∙_}
+use mathlib.Core.Bool.{false}
+use mathlib.Core.List.{List, [], _∷_, map}
+use mathlib.Core.Option.{Option}
 use native.Mathlib.Omega.{arith}
 use native.Mathlib.Nat.{sub-self}
 use lib.Dec.{eqb, lit<}
 use lib.ListN.{length, drop}
 use borrow.Author.Tests.{eqb-true, eqb-false, eq-eqb}
 use Rattle.paper.specs.Letters.{inward}
-use Rattle.paper.specs.Groups.{Rule, Group, same, which, first, chosen, obeyed, resultOf, readGroup, read}
+use Rattle.paper.specs.Groups.{Rule, Group, same, which, first, chosen, obeyed, Turn, readTurn, through}
 use Rattle.paper.specs.Words.{readWord}
 use Rattle.paper.specs.Numbered.{numberOf}
-use Rattle.walks.specs.Walk.{deepest, reached, held, walked, walkGroup, walk, walkWord}
+use Rattle.walks.specs.Walk.{Nodes, deepest, reached, held, walked, walkTurns, walkWord}
 use Rattle.walks.specs.Faithful.{FaithfulGroup, FaithfulFrom, Faithful}
 use Rattle.paper.specs.Numbered.{firstWith}
 use Rattle.paper.specs.TestLaws.{by-test, test-ext}
@@ -22,7 +22,7 @@ use Rattle.paper.specs.NumberedLaws.{number-least}
 use Rattle.paper.specs.ChosenLaws.{which-cong, chosen-whole, chosen-rest, chosen-none}
 use Rattle.walks.specs.DeepestLaws.{longestIn, longest-cong, deepest-longest}
 
--- Two endings with one first rule are one ending
+-- ## Two endings with one first rule are one ending
 
 pub first-one : (k : ℕ) (rules : List Rule) (s1 other : List ℕ) → (firstWith k rules s1 ≡ 0 → ⊥) → firstWith k rules s1 ≡ firstWith k rules other
     → other ≡ s1
@@ -69,7 +69,7 @@ chosen-at k rules word e =
     chosen-whole k rules word e ∙ which-from k rules word e
     ∙ which-cong _ _ (λ rule. first-same k rules word (rule .ending) e) (drop (firstWith k rules word - k) rules)
 
--- What the first ending among the word's tails, from the longest on, says of the rules chosen
+-- ## What the first ending among the word's tails, from the longest on, says of the rules chosen
 
 pub none-chosen : (k : ℕ) (rules : List Rule) (word : List ℕ) → 0 < k → longestIn (firstWith k rules) word ≡ 0 → chosen word rules ≡ []
 unfolding longestIn
@@ -89,39 +89,44 @@ some-chosen k rules (letter ∷ rest) h e =
     (λ p. rw p (chosen-rest k rules letter rest h (eqb-true _ 0 p) ∙ some-chosen k rules rest h (rw p at e)))
     (λ p. rw p (chosen-at k rules (letter ∷ rest) (eqb-false _ 0 p)))
 
--- The walk of a group obeys the rule that reading it obeys
+-- ## The walk of a group obeys the rule that reading it obeys
 
-pub walked-obeyed : (table : List ℕ) (root number : ℕ) (rules : List Rule) → 0 < number → FaithfulGroup table root number rules
-    → (word : List ℕ) → walked table root number word rules ≡ obeyed word rules
+pub walked-obeyed :
+    (nodes : Nodes) (root number : ℕ) (rules : List Rule)
+    → 0 < number
+    → FaithfulGroup nodes root number rules
+    → (word : List ℕ)
+    → walked nodes root number word rules ≡ obeyed word rules
 unfolding walked obeyed first
-walked-obeyed table root number rules h faithful word =
+walked-obeyed nodes root number rules h faithful word =
     let number-at = faithful .holding in
     let found = longestIn (firstWith number rules) word in
-    let walks : deepest table root (inward word) ≡ found = deepest-longest table root word ∙ longest-cong _ _ number-at word in
-    let one-ending : which (λ rule. eqb found (held table (reached table root (rule .ending)))) (drop
-    (found - number) rules) ≡ which (λ rule. eqb found (firstWith number rules (rule .ending))) (drop
-    (found - number) rules) = which-cong _ _ (λ rule. rw (number-at (rule .ending))) (drop
-    (found - number) rules) in
+    let from-found = drop (found - number) rules in
+    let walks : deepest nodes root (inward word) ≡ found = deepest-longest nodes root word ∙ longest-cong _ _ number-at word in
+    let one-ending : which (λ rule. eqb found (held nodes (reached nodes root (rule .ending)))) from-found
+    ≡ which (λ rule. eqb found (firstWith number rules (rule .ending))) from-found
+    = which-cong _ _ (λ rule. rw (number-at (rule .ending))) from-found in
     rw walks
     (by-test (eqb found 0) (λ p. rw (p, none-chosen number rules word h (eqb-true found 0 p)))
     (λ p. rw (p, one-ending, some-chosen number rules word h (eqb-false found 0 p))))
 
--- So do the walks of all groups
+-- ## So the groups are walked as they are read
 
-pub faithful-walks : (table : List ℕ) (place root number : ℕ) (groups : List Group) → 0 < number → FaithfulFrom table root number groups
-    → (opened : Bool) (word : List ℕ) → walk table place root number groups opened word ≡ read place groups opened word
-unfolding walk read walkGroup readGroup FaithfulFrom
-faithful-walks table place root number [] h faithful opened word = refl
-faithful-walks table place root number (group ∷ groups) h faithful opened word =
-    let onward = faithful-walks table place (suc root) (number + length (group .rules)) groups (omega arith) (faithful .1) in
-    rw (
-      walked-obeyed table root number (group .rules) h (faithful .0) word,
-      onward false word,
-      onward (resultOf word (obeyed word (group .rules)) .opened) (resultOf word (obeyed word (group .rules)) .word),
-    )
+pub faithful-turns :
+    (nodes : Nodes) (root number : ℕ) (groups : List Group)
+    → 0 < number
+    → FaithfulFrom nodes root number groups
+    → walkTurns nodes root number groups ≡ map readTurn groups
+unfolding walkTurns FaithfulFrom
+faithful-turns nodes root number [] h faithful = refl
+faithful-turns nodes root number (group ∷ groups) h faithful =
+    let here = fun-ext (walked-obeyed nodes root number (group .rules) h (faithful .0)) in
+    ap₂ (λ (obeys : List ℕ → Option Rule) (later : List Turn). record { gate = group .gate; obeys = obeys } ∷ later) here
+    (faithful-turns nodes (suc root) (number + length (group .rules)) groups (omega arith) (faithful .1))
 
--- a word walked through a table that is faithful to groups gives what reading the groups gives
-pub faithful-walks-words : (table : List ℕ) (groups : List Group) → Faithful table groups → (word : List ℕ)
-    → walkWord table groups word ≡ readWord groups word
+-- a word walked through nodes that are faithful to groups gives what reading the groups gives
+pub faithful-walks-words : (nodes : Nodes) (groups : List Group) → Faithful nodes groups → (word : List ℕ)
+    → walkWord nodes groups word ≡ readWord groups word
 unfolding walkWord readWord Faithful
-faithful-walks-words table groups faithful word = faithful-walks table (length word) 0 1 groups (lit< tt) faithful false word
+faithful-walks-words nodes groups faithful word =
+    ap (λ (turns : List Turn). through (length word) turns false word) (faithful-turns nodes 0 1 groups (lit< tt) faithful)

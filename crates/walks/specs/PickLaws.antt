@@ -1,4 +1,4 @@
--- The rule that a walk obeys, found by going through the group's rules in sheet order. Assumes nothing.
+-- The rule that a walk obeys, found by going through the group's rules in sheet order.
 use Prim.Native.Nat.{ℕ, suc, _-_}
 use mathlib.Core.Path.{_≡_, ap}
 use mathlib.Core.Bool.{Bool, cond, _&&_}
@@ -12,7 +12,7 @@ use borrow.Author.Tests.{leb-true, leb-false}
 use Rattle.paper.specs.Letters.{inward}
 use Rattle.paper.specs.Conditions.{holds}
 use Rattle.paper.specs.Groups.{Rule, before, which, first}
-use Rattle.walks.specs.Walk.{deepest, reached, held, walked}
+use Rattle.walks.specs.Walk.{Nodes, deepest, reached, held, walked}
 use Rattle.paper.specs.TestLaws.{by-test}
 
 -- the first rule from number `found` on that passes both tests, rules being counted from `k`
@@ -41,11 +41,11 @@ pick-first own good found k (rule ∷ rules) =
     rw (one-passed, p) rest)
 
 -- the rule that a walk obeys
-pub walked-picks : (table : List ℕ) (root number : ℕ) (word : List ℕ) (rules : List Rule) (found : ℕ) → found ≡ deepest table root (inward word)
-    → walked table root number word rules
+pub walked-picks : (nodes : Nodes) (root number : ℕ) (word : List ℕ) (rules : List Rule) (found : ℕ) → found ≡ deepest nodes root (inward word)
+    → walked nodes root number word rules
     ≡ cond (eqb found 0) none
-    (pick (λ rule. eqb found (held table (reached table root (rule .ending)))) (λ rule. holds (rule .condition)
+    (pick (λ rule. eqb found (held nodes (reached nodes root (rule .ending)))) (λ rule. holds (rule .condition)
     (before word (rule .ending))) found number rules)
 unfolding walked
-walked-picks table root number word rules found e =
+walked-picks nodes root number word rules found e =
     rw (← e) (ap (cond (eqb found 0) none) (pick-first _ _ found number rules))

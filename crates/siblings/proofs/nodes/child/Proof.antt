@@ -5,8 +5,8 @@ use mathlib.Core.Path.{_≡_, sym, _∙_}
 use lib.Dec.{lit<}
 use native.Mathlib.Omega.{arith}
 use borrow.Author.Needs.{needs}
-use Rattle.walks.specs.Walk.{inChain, child as childOf}
-use Rattle.walks.specs.WalkSteps.{child-beyond, chain-none, chain-here, chain-next, chain-end}
+use Rattle.siblings.specs.Children.{inChain, child as childOf}
+use Rattle.siblings.specs.ChildLaws.{child-beyond, chain-none, chain-here, chain-next, chain-end}
 use Rattle.siblings.proofs.nodes.child.Statement.{statement}
 use Rattle.siblings.proofs.nodes.child.Tie as tie
 

@@ -7,14 +7,15 @@ use borrow.Author.Needs.{needs}
 use lib.ListN.{length, take}
 use lib.Seq.{take-length}
 use Rattle.paper.specs.Letters.{inward}
+use Rattle.siblings.specs.Children.{nodesIn}
 use Rattle.walks.specs.Walk.{deepest as deepestOf}
-use Rattle.walks.specs.WalkSteps.{orFound, deepest-start, Turn, turn-missing, turn-holding, turn-empty, word-over}
+use Rattle.walks.specs.WalkSteps.{orFound, deepest-start, LetterStep, step-missing, step-holding, step-empty, word-over}
 use Rattle.tables.proofs.paths.deepest.Statement.{statement}
 use Rattle.tables.proofs.paths.deepest.Tie as tie
 
 abbrev Inv-loop : tie.InvT-loop
 Inv-loop table root word at₀ found₀ left₀ at found left =
-    (deepestOf table root (inward word) ≡ orFound table at found (inward (take left word))) × (at < 65536) × (left ≤ length word)
+    (deepestOf (nodesIn table) root (inward word) ≡ orFound (nodesIn table) at found (inward (take left word))) × (at < 65536) × (left ≤ length word)
 
 abbrev μ-loop : tie.MeasureT-loop
 μ-loop table root word at₀ found₀ left₀ at found left = left
@@ -31,7 +32,7 @@ number-at-requires c κs = search needs
 loop-holds : tie.Need-loop-holds Inv-loop μ-loop
 loop-holds c =
     let a = c .before .before .before .args in (
-      rw (c .number-at .ensures .0, take-length) (deepest-start (a .table .now) (a .root) (inward (a .word .now))),
+      rw (c .number-at .ensures .0, take-length) (deepest-start (nodesIn (a .table .now)) (a .root) (inward (a .word .now))),
       omega arith,
       omega arith,
     )
@@ -49,11 +50,11 @@ child-requires : tie.Need-child-requires Inv-loop μ-loop
 child-requires c κs = search needs
 
 -- one letter further
-turn-of : (c : tie.After-child Inv-loop μ-loop)
+step-of : (c : tie.After-child Inv-loop μ-loop)
     → (let a = c .before .before .before .before .before .before .before .before .args in
     let now = c .before .before .before .before .loop in
-    Turn (a .table .now) (a .word .now) (now .at) (now .left) (c .before .wide .result) (c .child .result))
-turn-of c =
+    LetterStep (nodesIn (a .table .now)) (a .word .now) (now .at) (now .left) (c .before .wide .result) (c .child .result))
+step-of c =
     record {
       more = c .before .before .before .loop-test .taken;
       within = c .before .before .before .before .loop .inv .2;
@@ -64,7 +65,7 @@ turn-of c =
 returns : tie.Need-returns Inv-loop μ-loop
 returns c =
     let now = c .before .before .before .before .before .loop in
-    sym (now .inv .0 ∙ turn-missing (turn-of (c .before)) (now .found) (c .if1 .taken))
+    sym (now .inv .0 ∙ step-missing (step-of (c .before)) (now .found) (c .if1 .taken))
 
 mul-number-at-2 : tie.Need-mul-number-at-2 Inv-loop μ-loop
 mul-number-at-2 c = omega arith
@@ -82,7 +83,7 @@ loop-again : tie.Need-loop-again Inv-loop μ-loop
 loop-again c =
     let now = c .before .before .before .before .before .before .before .loop in
     let read = c .before .number-at2 .ensures .0 in (
-      now .inv .0 ∙ turn-holding (turn-of (c .before .before .before)) (now .found) _ read (c .before .before .if1 .left) (c .if2 .taken),
+      now .inv .0 ∙ step-holding (step-of (c .before .before .before)) (now .found) _ read (c .before .before .if1 .left) (c .if2 .taken),
       c .before .before .before .child .ensures .1,
       omega arith,
     )
@@ -94,7 +95,7 @@ loop-again-2 : tie.Need-loop-again-2 Inv-loop μ-loop
 loop-again-2 c =
     let now = c .before .before .before .before .before .before .before .loop in
     let read = c .before .number-at2 .ensures .0 in (
-      now .inv .0 ∙ turn-empty (turn-of (c .before .before .before)) (now .found) _ read (c .before .before .if1 .left) (c .if2 .left),
+      now .inv .0 ∙ step-empty (step-of (c .before .before .before)) (now .found) _ read (c .before .before .if1 .left) (c .if2 .left),
       c .before .before .before .child .ensures .1,
       omega arith,
     )

@@ -4,6 +4,7 @@ use mathlib.Core.Path.{_≡_, sym}
 use native.Mathlib.Omega.{arith}
 use lib.ListN.{length, take, drop, length-drop}
 use lib.Seq.{length-take-le}
+use Rattle.siblings.specs.Children.{nodesIn}
 use Rattle.tables.specs.TryLaws.{obeys-early, obeys-other, obeys-judged}
 use borrow.Author.Needs.{needs}
 use Rattle.tables.proofs.runs.obeys.Statement.{statement}
@@ -12,7 +13,7 @@ use Rattle.tables.proofs.runs.obeys.Tie as tie
 returns : tie.Need-returns
 returns c =
     let a = c .before .before .before .before .args in
-    sym (obeys-early (a .table .now) (a .root) (a .found) (a .word .now) (a .number) (a .condition) _ (c .if1 .taken))
+    sym (obeys-early (nodesIn (a .table .now)) (a .root) (a .found) (a .word .now) (a .number) (a .condition) _ (c .if1 .taken))
 
 add-start : tie.Need-add-start
 add-start c = search needs
@@ -36,7 +37,7 @@ returns-2 : tie.Need-returns-2
 returns-2 c =
     let a = c .before .before .before .before .before .before .before .args in
     let size : a .place + 8 + a .ending - (a .place + 8) ≡ a .ending = omega arith in
-    sym (obeys-other (a .table .now) (a .root) (a .found) (a .word .now) (a .number) (a .condition) _ _ (rw size at
+    sym (obeys-other (nodesIn (a .table .now)) (a .root) (a .found) (a .word .now) (a .number) (a .condition) _ _ (rw size at
     (c .before .held-at .ensures)) (c .if2 .taken))
 
 less-requires : tie.Need-less-requires
@@ -61,7 +62,7 @@ returns-3 c =
       length-drop (a .place + 8) (a .sheet .now),
       c .before .before .before .before .before .before .before .before .before .before .pre .0,
     )) in
-    obeys-judged (a .table .now) (a .root) (a .found) (a .word .now) (a .number) (a .condition) s1 _ _
+    obeys-judged (nodesIn (a .table .now)) (a .root) (a .found) (a .word .now) (a .number) (a .condition) s1 _ _
     (c .before .before .less .result) (c .before .before .before .before .before .before .if1 .left)
     (rw size at (c .before .before .before .before .held-at .ensures)) (c .before .before .before .if2 .left) (omega
     (arith, c .before .before .less .ensures, long)) (c .holds .ensures)

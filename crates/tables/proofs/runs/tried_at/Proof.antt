@@ -4,6 +4,7 @@ use mathlib.Core.Path.{sym, _∙_}
 use native.Mathlib.Omega.{arith}
 use lib.ListN.{length}
 use borrow.Author.Needs.{needs}
+use Rattle.siblings.specs.Children.{nodesIn}
 use Rattle.sheets.specs.SheetPlaces.{RuleNext, never-over, never-alone, rule-next}
 use Rattle.sheets.specs.RulePlaces.{rule-facts}
 use Rattle.tables.specs.TryLaws.{
@@ -19,7 +20,7 @@ use Rattle.tables.proofs.runs.tried_at.Tie as tie
 
 abbrev Inv-loop : tie.InvT-loop
 Inv-loop sheet at groups rules table root found word place₀ number₀ place number =
-    (place ≤ length sheet) × (0 < place) × (number ≤ 128) × Trying table root found word sheet groups at rules place number
+    (place ≤ length sheet) × (0 < place) × (number ≤ 128) × Trying (nodesIn table) root found word sheet groups at rules place number
 
 abbrev μ-loop : tie.MeasureT-loop
 μ-loop sheet at groups rules table root found word place₀ number₀ place number = length sheet - place
@@ -31,7 +32,7 @@ loop-holds c =
       pre .1 .1 .0,
       pre .1 .0,
       pre .1 .1 .1 .0,
-      trying-start (a .table .now) (a .root) (a .found) (a .word .now)
+      trying-start (nodesIn (a .table .now)) (a .root) (a .found) (a .word .now)
           (a .sheet .now) (a .groups) (a .at) (a .rules) (pre .0),
     )
 

@@ -6,6 +6,7 @@ use mathlib.Core.List.{List}
 use lib.ListN.{take}
 use lib.Seq.{length-take-le}
 use Rattle.paper.specs.Groups.{Rule}
+use Rattle.siblings.specs.Children.{nodesIn}
 use Rattle.walks.specs.Walk.{walkGroup}
 use Rattle.tables.specs.TryLaws.{rulesOf, restAt, none-picked-as, some-picked-as}
 use Rattle.tables.specs.GroupStepLaws.{step-none, step-turned-down, Obeyed, obeyed}
@@ -60,7 +61,7 @@ obeyed-of : (c : tie.Else2)
     → (let start = c .before .before .before .before .before .before .before .before .before in
     let a = start .args in
     let rule = c .before .tried-at .result in
-    Obeyed (walkGroup (a .table .now) (a .root) (a .rules + 1) (take (a .size) (a .word .now)) (own start)) (a .sheet .now)
+    Obeyed (walkGroup (nodesIn (a .table .now)) (a .root) (a .rules + 1) (take (a .size) (a .word .now)) (own start)) (a .sheet .now)
     (a .word .now) (a .size) (rule .place) (rule .action) (rule .opens) (rule .ending) (rule .replacement))
 obeyed-of c =
     let start = c .before .before .before .before .before .before .before .before .before in

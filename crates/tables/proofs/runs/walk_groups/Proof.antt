@@ -6,6 +6,7 @@ use native.Mathlib.Omega.{arith}
 use lib.ListN.{length, take}
 use borrow.Author.Needs.{needs}
 use borrow.Author.Tests.{not-true, not-false}
+use Rattle.siblings.specs.Children.{nodesIn}
 use Rattle.sheets.specs.SheetPlaces.{GroupNext, RuleNext, never-over, never-alone, group-next, rule-next}
 use Rattle.tables.specs.WalkingLaws.{
   Walking,
@@ -27,7 +28,7 @@ Inv-loop sheet table word₀ at₀ next₀ rules₀ opened₀ size₀ word at ne
     × (rules ≤ 128)
     × (size ≤ length word)
     × (length word ≡ length word₀)
-    × Walking table sheet word₀ at next rules opened (take size word)
+    × Walking (nodesIn table) sheet word₀ at next rules opened (take size word)
 
 abbrev μ-loop : tie.MeasureT-loop
 μ-loop sheet table word₀ at₀ next₀ rules₀ opened₀ size₀ word at next rules opened size = length sheet - at
@@ -40,7 +41,7 @@ loop-holds c =
       omega arith,
       omega arith,
       refl,
-      walking-start (a .table .now) (a .sheet .now)
+      walking-start (nodesIn (a .table .now)) (a .sheet .now)
           (a .word .now) (c .before .before .before .pre),
     )
 

@@ -3,6 +3,7 @@ use mathlib.Core.Path.{refl, sym}
 use native.Mathlib.Omega.{arith}
 use lib.ListN.{length}
 use lib.Seq.{length-take-le}
+use Rattle.siblings.specs.Children.{nodesIn}
 use Rattle.walks.specs.Walk.{walkWord}
 use Rattle.sheets.specs.Accepted.{groupsOf}
 use Rattle.tables.specs.RanLaws.{
@@ -62,7 +63,7 @@ enum-known-walked c = search needs
 -- the letters that the walk left
 stem-of : (c : tie.After-known-told)
     → (let a = c .before .before .before .before .before .before .before .before .before .before .before .before .before .before .before .before .before .before .before .args in
-    Stem (walkWord (a .table .now) (groupsOf (a .sheet .now)) (a .word .now)) (c .before .walked .given .0 .0)
+    Stem (walkWord (nodesIn (a .table .now)) (groupsOf (a .sheet .now)) (a .word .now)) (c .before .walked .given .0 .0)
     (c .before .before .before .before .before .walk-groups .last .1 .1 .0))
 stem-of c = left-of _ _ _ _ (c .before .before .before .before .before .walk-groups .ensures) (c .before .walked .given .1)
 
