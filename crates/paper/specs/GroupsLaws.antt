@@ -1,17 +1,18 @@
--- Laws of endings and of reading a group, over any rule list. Assumes nothing.
-use Prim.Native.Nat.{ℕ, _+_, _-_, _≤_, _<_}
+-- Laws of endings.
+use Prim.Native.Nat.{ℕ, suc, _+_, _-_, _≤_, _<_}
+use native.Mathlib.Nat.{sub-self}
 use native.Mathlib.Omega.{arith}
 use mathlib.Core.Path.{_≡_, refl, ap, sym, _∙_}
-use mathlib.Core.Bool.{Bool, true, false}
+use mathlib.Core.Bool.{true, false, false≢true}
 use mathlib.Core.List.{List, [], _∷_, _++_}
-use lib.Dec.{eqb}
+use lib.Dec.{eqb, leb}
 use lib.ListN.{length, take, drop, getD, length-take, length-drop, length-append, take-append-drop}
-use lib.Seq.{ext-getD, getD-drop}
-use borrow.Author.Tests.{eq-eqb, eqb-true}
-use Rattle.paper.specs.TestLaws.{and-parts, test-ext}
+use lib.Seq.{ext-getD, getD-drop, drop-nil}
+use borrow.Author.Tests.{eq-eqb, eqb-true, leb-true, leb-false}
+use Rattle.paper.specs.TestLaws.{by-test, and-parts, test-ext}
 use Rattle.paper.specs.Groups.{same, endsWith, before}
 
--- ══ Two lists of letters are the same ══
+-- ## Two lists of letters are the same
 
 pub same-equal : (xs ys : List ℕ) → same xs ys ≡ true → xs ≡ ys
 unfolding same
@@ -33,11 +34,7 @@ pub equal-same : {xs ys : List ℕ} → xs ≡ ys → same xs ys ≡ true
 equal-same {xs} {ys} e = rw (← e) (same-itself xs)
 
 pub differ-same : (xs ys : List ℕ) → (xs ≡ ys → ⊥) → same xs ys ≡ false
-differ-same xs ys no-path = go (same xs ys) refl
-  where
-    go : (b : Bool) → same xs ys ≡ b → same xs ys ≡ false
-    go true e = absurd (no-path (same-equal xs ys e))
-    go false e = e
+differ-same xs ys apart = by-test (same xs ys) (λ e. absurd (apart (same-equal xs ys e))) (λ e. e)
 
 pub same-sym : (a b : List ℕ) → same a b ≡ same b a
 same-sym a b = test-ext _ _ (λ e. equal-same (sym (same-equal a b e))) (λ e. equal-same (sym (same-equal b a e)))
@@ -45,7 +42,7 @@ same-sym a b = test-ext _ _ (λ e. equal-same (sym (same-equal a b e))) (λ e. e
 pub same-long : (one other : List ℕ) → (length one ≡ length other → ⊥) → same one other ≡ false
 same-long one other h = differ-same one other (λ e. h (ap length e))
 
--- ══ A word and its ending ══
+-- ## A word and its ending
 
 -- what a word ends with, it is the part before followed by
 pub ends-split : (word s1 : List ℕ) → endsWith word s1 ≡ true → before word s1 ++ s1 ≡ word
@@ -88,3 +85,36 @@ pub ends-no :
 unfolding endsWith
 ends-no word s1 k other =
     differ-same _ s1 (λ e. other (sym (getD-drop (length word - length s1) word k 0) ∙ ap (λ (l : List ℕ). getD l k 0) e))
+
+-- ## A word and what stands behind its first letter
+
+pub ends-itself : (word : List ℕ) → endsWith word word ≡ true
+unfolding endsWith
+ends-itself word = rw sub-self (same-itself word)
+
+-- an ending as long as the word is the word
+pub ends-whole : (word s1 : List ℕ) → endsWith word s1 ≡ true → length s1 ≡ length word → s1 ≡ word
+unfolding endsWith
+ends-whole word s1 e long = sym (same-equal word s1 (rw (long, sub-self) at e))
+
+pub ends-empty : (s1 : List ℕ) → endsWith [] s1 ≡ same s1 []
+unfolding endsWith
+ends-empty s1 = rw (drop-nil, same-sym [] s1)
+
+ends-within : (letter : ℕ) (rest s1 : List ℕ) → length s1 ≤ length rest → endsWith (letter ∷ rest) s1 ≡ endsWith rest s1
+unfolding endsWith
+ends-within letter rest s1 short =
+    let passed : suc (length rest) - length s1 ≡ suc (length rest - length s1) = omega arith in
+    rw passed
+
+-- what is not the whole word ends it exactly if it ends the rest
+pub ends-rest : (letter : ℕ) (rest s1 : List ℕ) → same s1 (letter ∷ rest) ≡ false → endsWith (letter ∷ rest) s1 ≡ endsWith rest s1
+ends-rest letter rest s1 other =
+    by-test (leb (length s1) (length rest)) (λ p. ends-within letter rest s1 (leb-true (length s1) (length rest) p))
+    (λ p.
+    let long = leb-false (length s1) (length rest) p in
+    by-test (endsWith (letter ∷ rest) s1)
+    (λ q.
+    let whole = ends-whole (letter ∷ rest) s1 q (omega (arith, ending-short (letter ∷ rest) s1 q)) in
+    absurd (false≢true (sym other ∙ equal-same whole)))
+    (λ q. q ∙ sym (ends-short rest s1 (omega arith))))

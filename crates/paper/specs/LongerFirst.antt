@@ -1,10 +1,10 @@
 -- Groups in which no ending is a tail of a longer one that stands later: the first rule whose S1 the word ends with then gives
--- the longest S1. Over any rule list. Assumes nothing.
+-- the longest S1. Over any rule list.
 use Prim.Native.Nat.{ℕ, _+_, _-_, _≤_}
 use native.Mathlib.Omega.{arith}
 use mathlib.Core.Path.{_≡_, refl, ap, sym, _∙_}
 use mathlib.Core.Bool.{Bool, true, false, cond, not, _&&_, _||_, false≢true}
-use mathlib.Core.List.{List, [], _∷_, List·Memᴰ, List·Memᴰ·head, List·Memᴰ·tail}
+use mathlib.Core.List.{List, [], _∷_, List·Memᴰ}
 use lib.Dec.{leb}
 use lib.ListN.{length, getD}
 use lib.Seq.{getD-drop}
@@ -12,7 +12,7 @@ use borrow.Author.Tests.{leb-true, leb-false}
 use Rattle.paper.specs.TestLaws.{by-test, and-both, and-parts, or-cases}
 use Rattle.paper.specs.Groups.{Rule, endsWith, which, first, fitting, longest, obeyed}
 use Rattle.paper.specs.GroupsLaws.{same-equal, ending-short, ends-yes}
-use Rattle.paper.specs.ReadingLaws.{every, every-in, which-in, same-fitting, obeys, obeyed-in-turn}
+use Rattle.paper.specs.ReadingLaws.{every, every-in, which-in, longest-at-most, same-fitting, obeys, obeyed-in-turn}
 
 -- the later rule's ending is no longer than this one's, or does not end with it
 unfoldable pub keepsOrder : Rule → Rule → Bool
@@ -22,7 +22,7 @@ unfoldable pub longerFirst : List Rule → Bool
 longerFirst [] = true
 longerFirst (rule ∷ rules) = every (keepsOrder rule) rules && longerFirst rules
 
--- ══ Two endings of one word ══
+-- ## Two endings of one word
 
 letter-of-ending :
     (word s1 : List ℕ) → endsWith word s1 ≡ true → (k : ℕ) → getD s1 k 0 ≡ getD word (length word - length s1 + k) 0
@@ -46,16 +46,7 @@ ends-nested word short long ends-short ends-long shorter =
     ∙ ap (λ (n : ℕ). getD word n 0) place
     ∙ sym (letter-of-ending word short ends-short k))
 
--- ══ The first that ends the word is the longest ══
-
-longest-at-most :
-    (rules : List Rule) (n : ℕ) → ((rule : Rule) → List·Memᴰ rule rules → length (rule .ending) ≤ n) → longest rules ≤ n
-unfolding longest
-longest-at-most [] n all = omega arith
-longest-at-most (rule ∷ rules) n all =
-    let here = all rule (List·Memᴰ·head refl) in
-    let rest = longest-at-most rules n (λ later m. all later (List·Memᴰ·tail m)) in
-    omega arith
+-- ## The first that ends the word is the longest
 
 module _ (word : List ℕ) (rule : Rule) (rules : List Rule) where
   later-shorter :
@@ -96,7 +87,7 @@ pub longerFirst-rest : (rule : Rule) (rules : List Rule) → longerFirst (rule �
 unfolding longerFirst
 longerFirst-rest rule rules order = and-parts (every (keepsOrder rule) rules) (longerFirst rules) order .1
 
--- ══ Some of the rules, in their order ══
+-- ## Some of the rules, in their order
 
 every-which : (test other : Rule → Bool) (rules : List Rule) → every test rules ≡ true → every test (which other rules) ≡ true
 unfolding every which

@@ -1,30 +1,20 @@
--- Laws of how a group is read, over any rule list: which ending is chosen, and which rule is obeyed. Assumes nothing.
+-- Laws of how a group is read, over any rule list: which ending is chosen, and which rule is obeyed.
 use Prim.Native.Nat.{ℕ, _-_, _≤_}
 use native.Mathlib.Omega.{arith}
 use mathlib.Core.Path.{_≡_, refl, ap, sym, subst, _∙_}
-use mathlib.Core.Bool.{Bool, true, false, cond, true≢false, _&&_, and-false}
-use mathlib.Core.List.{
-  List,
-  [],
-  _∷_,
-  _++_,
-  List·Memᴰ,
-  List·Memᴰ·head,
-  List·Memᴰ·tail,
-  List·Memᴰ·not-nil,
-  List·Memᴰ·cases-cons,
-  Memᴰ·append-right,
-}
-use mathlib.Core.Logic.{_⊎_, inl, inr, ⊎-elim}
-use mathlib.Core.Option.{Option, some}
+use mathlib.Core.Bool.{Bool, true, false, true≢false, _&&_, and-false}
+use mathlib.Core.List.{List, [], _∷_, _++_, Memᴰ·append-right}
+use mathlib.Core.List.{List·Memᴰ, List·Memᴰ·head, List·Memᴰ·tail, List·Memᴰ·not-nil, List·Memᴰ·cases-cons}
+use mathlib.Core.Logic.{⊎-elim}
+use mathlib.Core.Option.{some}
 use lib.Dec.{eqb}
 use lib.ListN.{length, take}
 use borrow.Author.Tests.{eqb-true, eq-eqb, ne-eqb}
 use Rattle.paper.specs.Conditions.{holds}
-use Rattle.paper.specs.TestLaws.{and-parts}
+use Rattle.paper.specs.TestLaws.{by-test, and-parts}
 use Rattle.paper.specs.Groups.{Rule, endsWith, before, which, first, fitting, longest, chosen, obeyed}
 
--- ══ The rules that pass a test, and the first of them ══
+-- ## The rules that pass a test, and the first of them
 
 -- every rule of the list passes the test
 unfoldable pub every : (Rule → Bool) → List Rule → Bool
@@ -50,18 +40,14 @@ pub which-in :
     → List·Memᴰ rule rules × (test rule ≡ true)
 unfolding which
 which-in test [] m = absurd (List·Memᴰ·not-nil m)
-which-in test (one ∷ rules) {rule} m = go (which-in test rules) (test one) refl m
-  where
-    go :
-        (List·Memᴰ rule (which test rules) → List·Memᴰ rule rules × (test rule ≡ true))
-        → (passes : Bool)
-        → test one ≡ passes
-        → List·Memᴰ rule (cond passes (one ∷ which test rules) (which test rules))
-        → List·Memᴰ rule (one ∷ rules) × (test rule ≡ true)
-    go rest true e here =
-        ⊎-elim (λ same. (List·Memᴰ·head same, ap test same ∙ e)) (λ later. (List·Memᴰ·tail (rest later .0), rest later .1))
-        (List·Memᴰ·cases-cons here)
-    go rest false e later = (List·Memᴰ·tail (rest later .0), rest later .1)
+which-in test (one ∷ rules) {rule} m =
+    let on : List·Memᴰ rule (which test rules) → List·Memᴰ rule (one ∷ rules) × (test rule ≡ true)
+    = λ later. let rest = which-in test rules later in (List·Memᴰ·tail (rest .0), rest .1) in
+    by-test (test one)
+    (λ p.
+    let here : List·Memᴰ rule (one ∷ which test rules) = rw p at m in
+    ⊎-elim (λ same. (List·Memᴰ·head same, ap test same ∙ p)) on (List·Memᴰ·cases-cons here))
+    (λ p. on (rw p at m))
 
 pub in-which :
     (test : Rule → Bool) (rules : List Rule) {rule : Rule}
@@ -70,18 +56,33 @@ pub in-which :
     → List·Memᴰ rule (which test rules)
 unfolding which
 in-which test [] m e = absurd (List·Memᴰ·not-nil m)
-in-which test (one ∷ rules) {rule} m e = go (in-which test rules) (test one) refl (List·Memᴰ·cases-cons m)
-  where
-    go :
-        (List·Memᴰ rule rules → test rule ≡ true → List·Memᴰ rule (which test rules))
-        → (passes : Bool)
-        → test one ≡ passes
-        → (rule ≡ one) ⊎ List·Memᴰ rule rules
-        → List·Memᴰ rule (cond passes (one ∷ which test rules) (which test rules))
-    go rest true p (inl same) = List·Memᴰ·head same
-    go rest true p (inr later) = List·Memᴰ·tail (rest later e)
-    go rest false p (inl same) = let clash : true ≡ false = sym e ∙ ap test same ∙ p in absurd (true≢false clash)
-    go rest false p (inr later) = rest later e
+in-which test (one ∷ rules) {rule} m e =
+    ⊎-elim (λ same. let here : test one ≡ true = sym (ap test same) ∙ e in rw here (List·Memᴰ·head same))
+    (λ later.
+    let rest = in-which test rules later e in
+    by-test (test one) (λ p. rw p (List·Memᴰ·tail rest)) (λ p. rw p rest))
+    (List·Memᴰ·cases-cons m)
+
+-- tests that agree pass the same rules
+pub which-cong : (f g : Rule → Bool) → ((rule : Rule) → f rule ≡ g rule) → (rules : List Rule) → which f rules ≡ which g rules
+unfolding which
+which-cong f g e [] = refl
+which-cong f g e (rule ∷ rules) = rw (e rule, which-cong f g e rules)
+
+-- those that pass another test, in one test, and the first of them
+pub which-which :
+    (test other : Rule → Bool) (rules : List Rule) → which test (which other rules) ≡ which (λ rule. other rule && test rule) rules
+unfolding which
+which-which test other [] = refl
+which-which test other (rule ∷ rules) =
+    by-test (other rule) (λ p. rw (p, which, which-which test other rules)) (λ p. rw (p, which-which test other rules))
+
+first-which :
+    (test other : Rule → Bool) (rules : List Rule) → first test (which other rules) ≡ first (λ rule. other rule && test rule) rules
+unfolding first which
+first-which test other [] = refl
+first-which test other (rule ∷ rules) =
+    by-test (other rule) (λ p. rw (p, first, first-which test other rules)) (λ p. rw (p, first-which test other rules))
 
 -- of the rules that pass, `first` gives the one that stands first
 pub first-split :
@@ -94,47 +95,17 @@ pub first-split :
     × (test rule ≡ true)
 unfolding first
 first-split test [] rule e = let clash : _≡_ {A = ℕ} 0 1 = cc in absurd (omega arith)
-first-split test (one ∷ rules) rule e = go (first-split test rules rule) (test one) refl e
-  where
-    go :
-        (first test rules ≡ some rule
-        → (earlier : List Rule)
-        × (later : List Rule)
-        × (rules ≡ earlier ++ rule ∷ later)
-        × NonePass test earlier
-        × (test rule ≡ true))
-        → (passes : Bool)
-        → test one ≡ passes
-        → cond passes (some one) (first test rules) ≡ some rule
-        → (earlier : List Rule)
-        × (later : List Rule)
-        × (one ∷ rules ≡ earlier ++ rule ∷ later)
-        × NonePass test earlier
-        × (test rule ≡ true)
-    go rest true p here =
-        let same : one ≡ rule = cc in
-        ([], rules, ap (λ (r : Rule). r ∷ rules) same, none-left, subst (λ (r : Rule). test r ≡ true) same p)
-    go rest false p later =
-        let found = rest later in
-        (one ∷ found .0, found .1, ap (λ (rs : List Rule). one ∷ rs) (found .2), one-more p (found .3), found .4)
+first-split test (one ∷ rules) rule e =
+    by-test (test one)
+    (λ p.
+    let here : some one ≡ some rule = rw p at e in
+    let same : one ≡ rule = cc in
+    ([], rules, ap (λ (r : Rule). r ∷ rules) same, none-left, rw same at p))
+    (λ p.
+    let found = first-split test rules rule (rw p at e) in
+    (one ∷ found .0, found .1, ap (λ (rs : List Rule). one ∷ rs) (found .2), one-more p (found .3), found .4))
 
--- the first of those that pass another test, in one test
-pub first-which :
-    (test other : Rule → Bool) (rules : List Rule)
-    → first test (which other rules) ≡ first (λ rule. other rule && test rule) rules
-unfolding first which
-first-which test other [] = refl
-first-which test other (one ∷ rules) = go (first-which test other rules) (other one)
-  where
-    go :
-        first test (which other rules) ≡ first (λ rule. other rule && test rule) rules
-        → (passes : Bool)
-        → first test (cond passes (one ∷ which other rules) (which other rules))
-        ≡ cond (passes && test one) (some one) (first (λ rule. other rule && test rule) rules)
-    go rest true = ap (λ (r : Option Rule). cond (test one) (some one) r) rest
-    go rest false = rest
-
--- ══ The ending chosen is the longest ══
+-- ## The ending chosen is the longest
 
 pub longest-of : (rules : List Rule) {rule : Rule} → List·Memᴰ rule rules → length (rule .ending) ≤ longest rules
 unfolding longest
@@ -142,6 +113,15 @@ longest-of [] m = absurd (List·Memᴰ·not-nil m)
 longest-of (one ∷ rules) {rule} m =
     ⊎-elim (λ same. let n : length (rule .ending) ≡ length (one .ending) = ap (λ (r : Rule). length (r .ending)) same in omega arith)
     (λ later. let n = longest-of rules later in omega arith) (List·Memᴰ·cases-cons m)
+
+pub longest-at-most :
+    (rules : List Rule) (n : ℕ) → ((rule : Rule) → List·Memᴰ rule rules → length (rule .ending) ≤ n) → longest rules ≤ n
+unfolding longest
+longest-at-most [] n all = omega arith
+longest-at-most (rule ∷ rules) n all =
+    let here = all rule (List·Memᴰ·head refl) in
+    let rest = longest-at-most rules n (λ later m. all later (List·Memᴰ·tail m)) in
+    omega arith
 
 -- a rule that is chosen stands in the group, ends the word, and no ending of the group that ends the word is longer
 pub record Chosen (word : List ℕ) (rules : List Rule) (rule : Rule) : Type 0 where
@@ -162,7 +142,7 @@ chosen-longest word rules {rule} m =
           (r .ending)) rules stands ends) in omega arith;
     }
 
--- ══ Of the rules with that ending, the first that holds is obeyed ══
+-- ## Of the rules with that ending, the first that holds is obeyed
 
 -- the rule's condition, on the part before its ending
 abbrev pub applies : List ℕ → Rule → Bool
@@ -201,7 +181,7 @@ obeyed-in-turn word rules =
     first-which (applies word) (λ rule. eqb (length (rule .ending)) (longest (fitting word rules))) (fitting word rules)
     ∙ first-which _ (λ rule. endsWith word (rule .ending)) rules
 
--- ══ Which rules need to be looked at ══
+-- ## Which rules need to be looked at
 
 -- rules that cannot end the word may be left out beforehand
 pub narrowed :
@@ -210,23 +190,11 @@ pub narrowed :
     → fitting word (which test rules) ≡ fitting word rules
 unfolding fitting which
 narrowed word test [] needed = refl
-narrowed word test (one ∷ rules) needed = go (narrowed word test rules (λ rule m. needed rule (List·Memᴰ·tail m)))
-    (test one) refl (endsWith word (one .ending)) refl
-  where
-    ends : Rule → Bool
-    ends rule = endsWith word (rule .ending)
-
-    go :
-        which ends (which test rules) ≡ which ends rules
-        → (passes : Bool)
-        → test one ≡ passes
-        → (fits : Bool)
-        → endsWith word (one .ending) ≡ fits
-        → which ends (cond passes (one ∷ which test rules) (which test rules)) ≡ cond fits (one ∷ which ends rules) (which ends rules)
-    go rest true p true e = rw (e, rest)
-    go rest true p false e = rw e rest
-    go rest false p true e = absurd (true≢false (sym (needed one (List·Memᴰ·head refl) e) ∙ p))
-    go rest false p false e = rest
+narrowed word test (one ∷ rules) needed =
+    let rest = narrowed word test rules (λ rule m. needed rule (List·Memᴰ·tail m)) in
+    by-test (test one) (λ p. rw (p, which, rest))
+    (λ p. by-test (endsWith word (one .ending)) (λ e. absurd (true≢false (sym (needed one (List·Memᴰ·head refl) e) ∙ p)))
+    (λ e. rw (p, e) rest))
 
 -- what is obeyed depends only on the rules whose S1 the word ends with
 pub same-fitting :
@@ -234,7 +202,7 @@ pub same-fitting :
 unfolding obeyed chosen
 same-fitting word rules others e = rw e
 
--- ══ One rule, as a loop over the rules goes ══
+-- ## One rule, as a loop over the rules goes
 
 -- what one test of a rule comes to
 pub obeys-size :

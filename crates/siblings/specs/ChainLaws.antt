@@ -100,5 +100,6 @@ child-finds root others rules before parent later wanted split =
     let nodes = node root [] ∷ others in
     let none-there = root-no-child parent root in
     let enough : length others ≤ length (rows nodes rules 0 nodes) = omega (arith, rows-length nodes rules 0 nodes) in
-    let found = chain-finds nodes rules parent wanted (length (rows nodes rules 0 nodes)) (node root [] ∷ []) others refl (omega arith) enough in
+    let found = chain-finds nodes rules parent wanted (length (rows nodes rules 0 nodes)) (node root [] ∷ []) others refl
+    (omega arith) enough in
     rw (first-child-at nodes rules before parent later split, none-there, no-child wanted parent (node root []) none-there) found

@@ -30,9 +30,11 @@ unfolding enter
 enter-last [] one now = refl
 enter-last (first ∷ inner) one now = enter-last inner one (grow first now)
 
-pub enter-letter : (letter : ℕ) (parent : List ℕ) (now : Laying) → enter (inward (letter ∷ parent)) now ≡ grow letter (enter (inward parent) now)
+pub enter-letter :
+    (letter : ℕ) (parent : List ℕ) (now : Laying) → enter (inward (letter ∷ parent)) now ≡ grow letter (enter (inward parent) now)
 unfolding inward
-enter-letter letter parent now = ap (λ (list : List ℕ). enter list now) (reverse-cons letter parent) ∙ enter-last (reverse parent) letter now
+enter-letter letter parent now =
+    ap (λ (list : List ℕ). enter list now) (reverse-cons letter parent) ∙ enter-last (reverse parent) letter now
 
 -- "for each rule in sheet order and each letter of S1 from the last inward": where the translation stands afterwards
 
@@ -89,7 +91,8 @@ one-letter root others rules group letter parent now room inner =
       same-length = rw (enter-letter letter parent now) long;
     })
 
-pub entered : (root : ℕ) (others rules : List Node) (group : ℕ) (ending : List ℕ) (now : Laying) → Standing root others rules (node group []) now
+pub entered : (root : ℕ) (others rules : List Node) (group : ℕ) (ending : List ℕ) (now : Laying)
+    → Standing root others rules (node group []) now
     → 4 * length (added (node root [] ∷ others) (way group ending)) ≤ length (now .table)
     → Entered root others rules group ending now
 unfolding inward enter way added

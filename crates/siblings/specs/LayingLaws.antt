@@ -77,7 +77,8 @@ pub record Standing (root : ℕ) (others rules : List Node) (end : Node) (now : 
   pub there : present end (node root [] ∷ others) ≡ true
   pub reached : now .at ≡ numberOf (sameNode end) 0 (node root [] ∷ others)
 
-module _ (root : ℕ) (others rules : List Node) (parent : Node) (letter : ℕ) (now : Laying) (standing : Standing root others rules parent now) where
+module _ (root : ℕ) (others rules : List Node) (parent : Node) (letter : ℕ) (now : Laying)
+    (standing : Standing root others rules parent now) where
   abbrev old-nodes : List Node
   old-nodes = node root [] ∷ others
 
@@ -102,7 +103,14 @@ module _ (root : ℕ) (others rules : List Node) (parent : Node) (letter : ℕ) 
   pub standing-found : present child-node old-nodes ≡ true → Standing root others rules child-node (grow letter now)
   standing-found e =
       rw (grow-found e)
-      (record { laid = standing .laid; counted = standing .counted; fits = standing .fits; sound = standing .sound; there = e; reached = refl })
+      (record {
+        laid = standing .laid;
+        counted = standing .counted;
+        fits = standing .fits;
+        sound = standing .sound;
+        there = e;
+        reached = refl;
+      })
 
   -- the child is added
   abbrev hung-by : ℕ → Laying

@@ -33,7 +33,8 @@ end-over (suc steps) table link h = absurd (omega arith)
 
 -- One letter of an ending, as a loop lays it
 
-module _ (table : List ℕ) (count at letter one found : ℕ) (same-letter : one ≡ letter) (looked : found ≡ child (take (4 * count) table) at one) where
+module _ (table : List ℕ) (count at letter one found : ℕ) (same-letter : one ≡ letter)
+    (looked : found ≡ child (take (4 * count) table) at one) where
   pub grow-found : (found ≡ 0 → ⊥) → grow letter (laying table count at) ≡ laying table count found
   unfolding grow
   grow-found e = rw (← same-letter, ← looked, ne-eqb found 0 e)

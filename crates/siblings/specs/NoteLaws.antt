@@ -44,7 +44,9 @@ module _ (nodes rules : List Node) (end : Node) where
       rw (kept, rows-held (suc number) list h)
 
   -- and else it holds the new one
-  rows-new : (front back : List Node) (number : ℕ) → Every (λ one. sameNode one end ≡ false) front → Every (λ one. sameNode one end ≡ false) back
+  rows-new : (front back : List Node) (number : ℕ)
+      → Every (λ one. sameNode one end ≡ false) front
+      → Every (λ one. sameNode one end ≡ false) back
       → numberOf (sameNode end) 1 rules ≡ 0
       → rows nodes more-rules number (front ++ end ∷ back) ≡ set (rows nodes rules number (front ++ end ∷ back))
       (4 * length front + 3) (suc (length rules))
@@ -81,7 +83,9 @@ module _ (root : ℕ) (others rules : List Node) (end : Node) (now : Laying) (st
       let at-place = first-rule-at nodes rules (here .before) end (here .later) (here .split) in
       sym (getD-take (4 * now .count) (now .table) (4 * now .at + 3) 0 inside) ∙ rw (standing .laid, at-end) at-place
 
-  noted-rows : numberOf (sameNode end) 1 rules ≡ 0 → rows nodes (rules ++ end ∷ []) 0 nodes ≡ set (rows nodes rules 0 nodes) (4 * now .at + 3) rule
+  noted-rows :
+      numberOf (sameNode end) 1 rules ≡ 0
+      → rows nodes (rules ++ end ∷ []) 0 nodes ≡ set (rows nodes rules 0 nodes) (4 * now .at + 3) rule
   noted-rows e =
       let distinct = subst Distinct (sym (here .split)) (standing .sound .distinct) in
       let apart-before = front-apart (here .before) end (here .later) distinct in

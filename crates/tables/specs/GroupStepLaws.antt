@@ -53,7 +53,8 @@ module _ (nodes : Nodes) (root number : ℕ) (place : List ℕ) (size : ℕ) (ru
   pub step-none : found ≡ 0 → Stepped step (length place) place size false true
   step-none e = unchanged (walked-picks nodes root number word rules found deep ∙ rw (eq-eqb found 0 e))
 
-  pub step-turned-down : (found ≡ 0 → ⊥) → picked nodes root found word number rules ≡ none → Stepped step (length place) place size false true
+  pub step-turned-down :
+      (found ≡ 0 → ⊥) → picked nodes root found word number rules ≡ none → Stepped step (length place) place size false true
   unfolding picked
   step-turned-down e p = unchanged (walked-picks nodes root number word rules found deep ∙ rw (ne-eqb found 0 e, p))
 
@@ -96,7 +97,8 @@ module _ (nodes : Nodes) (root number : ℕ) (place : List ℕ) (size : ℕ) (ru
         ≡ take (part - 1) place = rw (single, left) (take-take (part - 1) part place (omega arith)) in
         rw (given, letters-left)
         (record {
-          fits-is = sym (le-leb (length (take (part - 1) place)) (length place) (omega (arith, length-take-le (part - 1) place (omega arith))));
+          fits-is = sym (le-leb (length (take (part - 1) place)) (length place)
+              (omega (arith, length-take-le (part - 1) place (omega arith))));
           letters = λ t. (refl, omega arith, opening);
         })
 

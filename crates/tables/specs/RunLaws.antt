@@ -48,7 +48,9 @@ short-by (accepted groups) own e =
     (λ p. let given : Short ≡ Nodes (nodeCount groups) = rw p at e in apart (cc))
 
 nodes-by : (found : Sheet) (own : List ℕ) (nodes : ℕ) → Nodes nodes ≡ translationOf found own .answer
-    → (found ≡ accepted (groupsIn found)) × (nodes ≡ nodeCount (groupsIn found)) × (translationOf found own .table ≡ laidOut (groupsIn found) own)
+    → (found ≡ accepted (groupsIn found))
+    × (nodes ≡ nodeCount (groupsIn found))
+    × (translationOf found own .table ≡ laidOut (groupsIn found) own)
 unfolding translationOf groupsIn
 nodes-by (refused other) own nodes e = apart (cc)
 nodes-by (accepted groups) own nodes e =
@@ -57,7 +59,8 @@ nodes-by (accepted groups) own nodes e =
     (λ p. let given : Nodes nodes ≡ Nodes (nodeCount groups) = rw p at e in (refl, cc, rw p))
 
 module _ (sheet own table word : List ℕ) where
-  pub run-refused : (place : ℕ) → Refused place ≡ translation sheet own .answer → RanAs (runOutcome sheet table word) (RanRefused place) word
+  pub run-refused :
+      (place : ℕ) → Refused place ≡ translation sheet own .answer → RanAs (runOutcome sheet table word) (RanRefused place) word
   unfolding translation runOutcome runOf
   run-refused place e = rw (refused-by (readSheet sheet) own place e) (record { number-is = refl; value-is = refl; place-is = refl })
 
@@ -104,6 +107,7 @@ module _ (sheet own table word : List ℕ) where
       run-other t = wrong (right-by ∙ t)
 
       pub run-right : (ran : Ran) (left : List ℕ) → test ≡ true
-          → RanAs (wordOutcome (walkWord (nodesIn (take (4 * nodes) table)) (groupsOf sheet)) word) ran left → RanAs (runOutcome sheet table word) ran left
+          → RanAs (wordOutcome (walkWord (nodesIn (take (4 * nodes) table)) (groupsOf sheet)) word) ran left
+          → RanAs (runOutcome sheet table word) ran left
       unfolding runOutcome runOf
       run-right ran left t ran-as = rw (run-accepted .0, right-by ∙ t, ← run-accepted .1) ran-as

@@ -47,7 +47,8 @@ run-reads sheet table word groups is right =
 pub translated-right : (groups : List Group) (table : List ℕ) → rightTable groups (laidOut groups table) ≡ true
 unfolding rightTable laidOut
 translated-right groups table =
-    rw (take-at (tableOf groups) (drop (4 * nodeCount groups) table) (4 * nodeCount groups) (table-length groups)) (same-itself (tableOf groups))
+    rw (take-at (tableOf groups) (drop (4 * nodeCount groups) table) (4 * nodeCount groups) (table-length groups))
+    (same-itself (tableOf groups))
 
 -- "The table made from the shipped sheet gives the stem of demand 2."
 pub run-stems : (sheet table word : List ℕ) → readSheet sheet ≡ accepted shipped → rightTable shipped table ≡ true

@@ -57,12 +57,19 @@ pub record Trying (nodes : Nodes) (root found : ℕ) (word sheet : List ℕ) (gr
   pub list : List Rule
   pub more : List Group
   pub holds-here : Holding sheet place groups rules list more
-  pub decides : picked nodes root found word (rules + 1) list ≡ picked nodes root found word (first + 1) (rulesOf (restAt sheet start groups first))
+  pub decides :
+      picked nodes root found word (rules + 1) list
+      ≡ picked nodes root found word (first + 1) (rulesOf (restAt sheet start groups first))
 
 pub trying-start : (nodes : Nodes) (root found : ℕ) (word sheet : List ℕ) (groups start first : ℕ) → Readable sheet start groups first
     → Trying nodes root found word sheet groups start first start first
 trying-start nodes root found word sheet groups start first is =
-    record { list = rulesOf (restAt sheet start groups first); more = groupsAfter (restAt sheet start groups first); holds-here = record { rest-is = is }; decides = refl }
+    record {
+      list = rulesOf (restAt sheet start groups first);
+      more = groupsAfter (restAt sheet start groups first);
+      holds-here = record { rest-is = is };
+      decides = refl;
+    }
 
 picked-none : (nodes : Nodes) (root found : ℕ) (word : List ℕ) (number : ℕ) (list : List Rule) → list ≡ []
     → picked nodes root found word number list ≡ none
@@ -71,7 +78,8 @@ picked-none nodes root found word number list e = rw e
 
 module _ (nodes : Nodes) (root found : ℕ) (word : List ℕ) (number : ℕ) (list : List Rule) (one : Rule) (more : List Rule)
     (split : list ≡ one ∷ more) where
-  picked-here : obeys nodes root found word number (one .condition) (one .ending) ≡ true → picked nodes root found word number list ≡ some one
+  picked-here : obeys nodes root found word number (one .condition) (one .ending) ≡ true
+      → picked nodes root found word number list ≡ some one
   unfolding picked pick obeys
   picked-here t = rw (split, t)
 
@@ -120,7 +128,8 @@ module _ {nodes : Nodes} {root found : ℕ} {word sheet : List ℕ} {groups star
     pub trying-next : {judged : Bool} → Judged judged → judged ≡ false
         → Trying nodes root found word sheet groups start first (place + (8 + s1 + s2)) (rules + 1)
     trying-next is t =
-        let passed = picked-next nodes root found word (rules + 1) (state .list) (next .one) (next .rules-then) (next .rule-first) (tested false is t) in
+        let passed = picked-next nodes root found word (rules + 1) (state .list) (next .one) (next .rules-then) (next .rule-first)
+        (tested false is t) in
         record {
           list = next .rules-then;
           more = state .more;
@@ -141,7 +150,8 @@ module _ (nodes : Nodes) (root found : ℕ) (word : List ℕ) (number condition 
   obeys-other there e h = rw (← e, ne-eqb found there h, and-false)
 
   pub obeys-judged : (there : ℕ) (answer : Bool) (part : ℕ) → found ≤ number → there ≡ held nodes (reached nodes root s1) → found ≡ there
-      → part ≡ length word - length s1 → answer ≡ holds condition (take part word) → answer ≡ obeys nodes root found word number condition s1
+      → part ≡ length word - length s1 → answer ≡ holds condition (take part word)
+      → answer ≡ obeys nodes root found word number condition s1
   unfolding obeys before
   obeys-judged there answer part h e f p j = rw (le-leb found number h, ← e, eq-eqb found there f, ← p) j
 

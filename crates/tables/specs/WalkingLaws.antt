@@ -29,7 +29,8 @@ pub record Walking (nodes : Nodes) (sheet first : List ℕ) (at next rules : ℕ
   pub decides :
       through (length first) (walkTurns nodes next (rules + 1 + length list) more) opened word ≡ walkWord nodes (groupsOf sheet) first
 
-pub walking-start : (nodes : Nodes) (sheet first : List ℕ) → Accepted sheet → Walking nodes sheet first 0 0 0 false (take (length first) first)
+pub walking-start :
+    (nodes : Nodes) (sheet first : List ℕ) → Accepted sheet → Walking nodes sheet first 0 0 0 false (take (length first) first)
 unfolding walkWord
 walking-start nodes sheet first is =
     record {
@@ -77,7 +78,8 @@ module _ {nodes : Nodes} {sheet first : List ℕ} {at next rules : ℕ} {opened 
     split = rw (found .group-first, add-one next)
 
     go-on : (word-then : List ℕ) (opened-then : Bool) → length word-then ≤ length first
-        → through (length first) (walkTurns nodes next (rules + 1) (state .more)) opened word ≡ through (length first) later opened-then word-then
+        → through (length first) (walkTurns nodes next (rules + 1) (state .more)) opened word
+        ≡ through (length first) later opened-then word-then
         → Walking nodes sheet first (at + 6) (next + 1) rules opened-then word-then
     go-on word-then opened-then fits e =
         record { list = found .rules-then; more = found .groups-then; holds = found .holds; short = fits; decides = sym e ∙ from-here }
@@ -102,7 +104,8 @@ module _ {nodes : Nodes} {sheet first : List ℕ} {at next rules : ℕ} {opened 
       walking-outgrown f =
           sym (turn-outgrown (length first) split opened word (gated true t) (sym (step-own .fits-is) ∙ f)) ∙ from-here
 
-  pub walking-rule : {s1 s2 : ℕ} → RuleNext (state .holds) s1 s2 → Walking nodes sheet first (at + (8 + s1 + s2)) next (rules + 1) opened word
+  pub walking-rule : {s1 s2 : ℕ} → RuleNext (state .holds) s1 s2
+      → Walking nodes sheet first (at + (8 + s1 + s2)) next (rules + 1) opened word
   walking-rule found =
       let shorter = ap length (found .rule-first) in
       let same-number : rules + 1 + 1 + length (found .rules-then) ≡ rules + 1 + length (state .list) = omega (arith, shorter) in

@@ -34,7 +34,8 @@ fn obeys(
     word: &[u8],
 ) -> bool
     requires { ⌜ (place + 8 + ending ≤ length (now sheet)) × (root < 65536) ⌝ }
-    ensures { λ r. ⌜ r ≡ obeysOf (nodesIn (now (table .entry))) root found (now (word .entry)) number condition (take ending (drop (place + 8) (now (sheet .entry)))) ⌝ }
+    ensures { λ r. ⌜ r ≡ obeysOf (nodesIn (now (table .entry))) root found (now (word .entry)) number condition
+        (take ending (drop (place + 8) (now (sheet .entry)))) ⌝ }
 {
     if number < found {
         return false;
@@ -82,7 +83,10 @@ fn tried_at(
     word: &[u8],
 ) -> Found
     requires { ⌜ Readable (now sheet) at groups rules × ((0 < at) × ((at ≤ length (now sheet)) × ((rules ≤ 128) × (root < 65536)))) ⌝ }
-    ensures { λ r. ⌜ PickedAs (now (sheet .entry)) (picked (nodesIn (now (table .entry))) root found (now (word .entry)) (rules + 1) (rulesOf (restAt (now (sheet .entry)) at groups rules))) (r .place) (r .action) (r .opens) (r .ending) (r .replacement) ⌝ }
+    ensures { λ r. ⌜ PickedAs (now (sheet .entry))
+        (picked (nodesIn (now (table .entry))) root found (now (word .entry)) (rules + 1)
+        (rulesOf (restAt (now (sheet .entry)) at groups rules)))
+        (r .place) (r .action) (r .opens) (r .ending) (r .replacement) ⌝ }
 {
     let mut place = at;
     let mut number = rules;
@@ -145,8 +149,12 @@ fn walk_group(
     word: &mut [u8],
     size: usize,
 ) -> Step
-    requires { ⌜ Readable (now sheet) at groups rules × ((0 < at) × ((at ≤ length (now sheet)) × ((rules ≤ 128) × ((root < 65536) × (size ≤ length (now word)))))) ⌝ }
-    ensures { λ r. ⌜ Stepped (walkGroup (nodesIn (now (table .entry))) root (rules + 1) (take size (now (word .entry))) (rulesOf (restAt (now (sheet .entry)) at groups rules))) (length (now (word .entry))) (now (word .exit)) (r .size) (r .opened) (r .fits) ⌝ }
+    requires { ⌜ Readable (now sheet) at groups rules
+        × ((0 < at) × ((at ≤ length (now sheet)) × ((rules ≤ 128) × ((root < 65536) × (size ≤ length (now word)))))) ⌝ }
+    ensures { λ r. ⌜ Stepped
+        (walkGroup (nodesIn (now (table .entry))) root (rules + 1) (take size (now (word .entry)))
+        (rulesOf (restAt (now (sheet .entry)) at groups rules)))
+        (length (now (word .entry))) (now (word .exit)) (r .size) (r .opened) (r .fits) ⌝ }
 {
     let found = deepest(table, root, &word[..size]);
     if found == 0 {
@@ -202,7 +210,8 @@ pub(crate) enum Walked {
 // Walks all groups of a sheet on a word, in its own place.
 pub(crate) fn walk_groups(sheet: &[u8], table: &[u16], word: &mut [u8]) -> Walked
     requires { ⌜ Accepted (now sheet) ⌝ }
-    ensures { λ r. ⌜ WalkedAs (walkWord (nodesIn (now (table .entry))) (groupsOf (now (sheet .entry))) (now (word .entry))) r (now (word .exit)) ⌝ }
+    ensures { λ r. ⌜ WalkedAs (walkWord (nodesIn (now (table .entry))) (groupsOf (now (sheet .entry))) (now (word .entry)))
+        r (now (word .exit)) ⌝ }
 {
     let mut at = 0;
     let mut next = 0;

@@ -12,7 +12,9 @@ use crate::runs::walk_groups;
 // A run on a word, whose table is known to be the sheet's: "1, 2, 4 for a word".
 pub(crate) fn word_run(sheet: &[u8], table: &[u16], word: &mut [u8]) -> Ran
     requires { ⌜ Accepted (now sheet) ⌝ }
-    ensures { λ r. ⌜ RanAs (wordOutcome (walkWord (nodesIn (now (table .entry))) (groupsOf (now (sheet .entry)))) (now (word .entry))) r (now (word .exit)) ⌝ }
+    ensures { λ r. ⌜ RanAs
+        (wordOutcome (walkWord (nodesIn (now (table .entry))) (groupsOf (now (sheet .entry)))) (now (word .entry)))
+        r (now (word .exit)) ⌝ }
 {
     let size = word.len();
     if size == 0 {

@@ -12,20 +12,20 @@ use borrow.Author.Tests.{eqb-true, eqb-false, eq-eqb}
 use Rattle.paper.specs.Letters.{inward}
 use Rattle.paper.specs.Groups.{Rule, Group, same, which, first, chosen, obeyed, Turn, readTurn, through}
 use Rattle.paper.specs.Words.{readWord}
-use Rattle.paper.specs.Numbered.{numberOf}
+use Rattle.paper.specs.Numbered.{numberOf, firstWith}
 use Rattle.walks.specs.Walk.{Nodes, deepest, reached, held, walked, walkTurns, walkWord}
 use Rattle.walks.specs.Faithful.{FaithfulGroup, FaithfulFrom, Faithful}
-use Rattle.paper.specs.Numbered.{firstWith}
 use Rattle.paper.specs.TestLaws.{by-test, test-ext}
 use Rattle.paper.specs.GroupsLaws.{same-equal, equal-same}
 use Rattle.paper.specs.NumberedLaws.{number-least}
-use Rattle.paper.specs.ChosenLaws.{which-cong, chosen-whole, chosen-rest, chosen-none}
+use Rattle.paper.specs.ReadingLaws.{which-cong}
+use Rattle.paper.specs.ChosenLaws.{chosen-whole, chosen-rest, chosen-none}
 use Rattle.walks.specs.DeepestLaws.{longestIn, longest-cong, deepest-longest}
 
 -- ## Two endings with one first rule are one ending
 
-pub first-one : (k : ℕ) (rules : List Rule) (s1 other : List ℕ) → (firstWith k rules s1 ≡ 0 → ⊥) → firstWith k rules s1 ≡ firstWith k rules other
-    → other ≡ s1
+first-one : (k : ℕ) (rules : List Rule) (s1 other : List ℕ) → (firstWith k rules s1 ≡ 0 → ⊥)
+    → firstWith k rules s1 ≡ firstWith k rules other → other ≡ s1
 unfolding firstWith numberOf
 first-one k [] s1 other e q = absurd (e refl)
 first-one k (rule ∷ rules) s1 other e q =
@@ -64,7 +64,8 @@ which-from k (rule ∷ rules) s1 e =
     rw (p, step) (which-from (suc k) rules s1 some))
 
 pub chosen-at : (k : ℕ) (rules : List Rule) (word : List ℕ) → (firstWith k rules word ≡ 0 → ⊥)
-    → chosen word rules ≡ which (λ rule. eqb (firstWith k rules word) (firstWith k rules (rule .ending))) (drop (firstWith k rules word - k) rules)
+    → chosen word rules
+    ≡ which (λ rule. eqb (firstWith k rules word) (firstWith k rules (rule .ending))) (drop (firstWith k rules word - k) rules)
 chosen-at k rules word e =
     chosen-whole k rules word e ∙ which-from k rules word e
     ∙ which-cong _ _ (λ rule. first-same k rules word (rule .ending) e) (drop (firstWith k rules word - k) rules)

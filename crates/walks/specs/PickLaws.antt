@@ -41,7 +41,8 @@ pick-first own good found k (rule ∷ rules) =
     rw (one-passed, p) rest)
 
 -- the rule that a walk obeys
-pub walked-picks : (nodes : Nodes) (root number : ℕ) (word : List ℕ) (rules : List Rule) (found : ℕ) → found ≡ deepest nodes root (inward word)
+pub walked-picks : (nodes : Nodes) (root number : ℕ) (word : List ℕ) (rules : List Rule) (found : ℕ)
+    → found ≡ deepest nodes root (inward word)
     → walked nodes root number word rules
     ≡ cond (eqb found 0) none
     (pick (λ rule. eqb found (held nodes (reached nodes root (rule .ending)))) (λ rule. holds (rule .condition)

@@ -39,12 +39,13 @@ unfolding orFound below deepest
 deepest-start nodes root [] = refl
 deepest-start nodes root (one ∷ inner) = refl
 
-pub deepest-missing : (nodes : Nodes) (at found one : ℕ) (inner : List ℕ) → nodes .child at one ≡ 0 → orFound nodes at found (one ∷ inner) ≡ found
+deepest-missing : (nodes : Nodes) (at found one : ℕ) (inner : List ℕ)
+    → nodes .child at one ≡ 0 → orFound nodes at found (one ∷ inner) ≡ found
 unfolding orFound below
 deepest-missing nodes at found one inner e = rw e
 
 -- the node below holds no rule, or another one is found
-pub deepest-on : (nodes : Nodes) (at found one : ℕ) (inner : List ℕ) → (nodes .child at one ≡ 0 → ⊥)
+deepest-on : (nodes : Nodes) (at found one : ℕ) (inner : List ℕ) → (nodes .child at one ≡ 0 → ⊥)
     → orFound nodes at found (one ∷ inner) ≡ orFound nodes (nodes .child at one)
     (cond (eqb (nodes .rule (nodes .child at one)) 0) found (nodes .rule (nodes .child at one))) inner
 unfolding orFound below

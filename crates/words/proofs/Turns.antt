@@ -64,17 +64,17 @@ module _ (given : List ℕ) (k : ℕ) (known : k < 9) (opened : Bool) (word : Li
 
   module _ (run : (eqb (getD gateDigits k 0) 48 || opened) ≡ true) where
     -- the shipped rules never outgrow the place
-    fits : leb (length (turned word k)) (length given) ≡ true
+    fits : leb (length (turned word k .word)) (length given) ≡ true
     unfolding groupRules
     fits =
         turn-fits (length given) one-more opened word (sym (gate-at k opened known) ∙ run)
         (λ outgrew. let clash : done (stem-done given .0) ≡ outgrown = sym (stem-done given .1) ∙ sym left ∙ outgrew in
         let z : _≡_ {A = ℕ} 0 1 = cc in omega arith)
 
-    pub result-fits : length (turned word k) ≤ length given
+    pub result-fits : length (turned word k .word) ≤ length given
     result-fits = leb-true _ _ fits
 
-    pub read-on : Left-to-read given (k + 1) (opensNext (obeyed word (groupRules k))) (turned word k)
+    pub read-on : Left-to-read given (k + 1) (opensNext (turned word k .obeyed)) (turned word k .word)
     unfolding groupRules
     read-on = sym (turn-run (length given) one-more opened word (sym (gate-at k opened known) ∙ run) fits) ∙ left
 

@@ -8,7 +8,7 @@ use mathlib.Core.Option.{Option, none, some}
 use lib.Dec.{eqb, ltb}
 use lib.ListN.{length, drop, getD}
 use Rattle.paper.specs.Letters.{letters, among, letterAt, inward}
-use Rattle.paper.specs.Groups.{replace, written, numberOfAction, Rule, always, numberOfGate, Group, endsWith, first, obeyed, result}
+use Rattle.paper.specs.Groups.{replace, written, numberOfAction, Rule, always, numberOfGate, Group, endsWith, first, obeyed, Step, stepOf}
 use Rattle.paper.specs.ReadingLaws.{obeys}
 use Rattle.paper.specs.Shipped.{shipped}
 
@@ -38,9 +38,9 @@ noGroup = record { gate = always; rules = [] }
 unfoldable pub groupRules : ℕ → List Rule
 groupRules number = getD shipped number noGroup .rules
 
--- what that group leaves of a word
-abbrev pub turned : List ℕ → ℕ → List ℕ
-turned word number = result word (obeyed word (groupRules number))
+-- what reading that group leaves
+abbrev pub turned : List ℕ → ℕ → Step
+turned word number = stepOf word (obeyed word (groupRules number))
 
 -- the rule of a number, counted from 0
 abbrev pub noRule : Rule

@@ -19,10 +19,10 @@ ghost use mathlib.Core.Path.{_≡_};
 ghost use mathlib.Core.List.{List};
 ghost use Prim.Native.Nat.{ℕ, _<_, _≤_};
 ghost use lib.ListN.{length, take};
-ghost use Rattle.paper.specs.Groups.{obeyed, opensNext, done};
+ghost use Rattle.paper.specs.Groups.{opensNext, done};
 ghost use Rattle.paper.specs.Words.{stem as stemOf};
 ghost use Rattle.words.specs.Answer.{numberOf, valueOf, Gives};
-ghost use Rattle.words.specs.Tables.{Column, groupRules, turned};
+ghost use Rattle.words.specs.Tables.{Column, turned};
 ghost use Rattle.words.specs.Tables.{endingLetters, endingStarts, conditionDigits, candidateNumbers, candidateStarts, gateDigits};
 
 pub enum Stemmed {
@@ -58,10 +58,10 @@ fn turn(
     requires { ⌜ (group < 9) × ((now candidates ≡ candidateNumbers) × (now blocks ≡ candidateStarts)) ⌝ }
     requires { ⌜ (now endings ≡ endingLetters) × ((now starts ≡ endingStarts) × (now conditions ≡ conditionDigits)) ⌝ }
     requires { ⌜ (len ≤ length (now word)) × Column (take len (now word)) column ⌝ }
-    requires { ⌜ length (turned (take len (now word)) group) ≤ length (now word) ⌝ }
-    ensures { λ r. ⌜ take (r .len) (now (word .exit)) ≡ turned (take len (now (word .entry))) group ⌝ }
+    requires { ⌜ length (turned (take len (now word)) group .word) ≤ length (now word) ⌝ }
+    ensures { λ r. ⌜ take (r .len) (now (word .exit)) ≡ turned (take len (now (word .entry))) group .word ⌝ }
     ensures { λ r. ⌜ (r .len ≤ length (now (word .entry))) × Column (take (r .len) (now (word .exit))) (r .column) ⌝ }
-    ensures { λ r. ⌜ r .opened ≡ opensNext (obeyed (take len (now (word .entry))) (groupRules group)) ⌝ }
+    ensures { λ r. ⌜ r .opened ≡ opensNext (turned (take len (now (word .entry))) group .obeyed) ⌝ }
 {
     let rule = choose(
         &word[..len],

@@ -15,7 +15,9 @@ use Rattle.tables.proofs.paths.deepest.Tie as tie
 
 abbrev Inv-loop : tie.InvT-loop
 Inv-loop table root word at₀ found₀ left₀ at found left =
-    (deepestOf (nodesIn table) root (inward word) ≡ orFound (nodesIn table) at found (inward (take left word))) × (at < 65536) × (left ≤ length word)
+    (deepestOf (nodesIn table) root (inward word) ≡ orFound (nodesIn table) at found (inward (take left word)))
+    × (at < 65536)
+    × (left ≤ length word)
 
 abbrev μ-loop : tie.MeasureT-loop
 μ-loop table root word at₀ found₀ left₀ at found left = left

@@ -53,7 +53,8 @@ same-length-2 c = search needs
 returns-2 : tie.Need-returns-2
 returns-2 c =
     let start = c .before .before .before .before .before .before .before .before .before in
-    step-turned-down _ _ _ _ _ (own start) _ (start .pre .1 .1 .1 .1 .1) (c .before .before .before .before .deepest .ensures) (c .before .before .before .if1 .left)
+    step-turned-down _ _ _ _ _ (own start) _ (start .pre .1 .1 .1 .1 .1)
+    (c .before .before .before .before .deepest .ensures) (c .before .before .before .if1 .left)
     (none-picked-as _ _ _ _ _ _ _ (c .before .tried-at .ensures) (c .if2 .taken))
 
 -- a rule was picked, and so it is obeyed
@@ -65,7 +66,8 @@ obeyed-of : (c : tie.Else2)
     (a .word .now) (a .size) (rule .place) (rule .action) (rule .opens) (rule .ending) (rule .replacement))
 obeyed-of c =
     let start = c .before .before .before .before .before .before .before .before .before in
-    obeyed _ _ _ _ _ (own start) _ (start .pre .1 .1 .1 .1 .1) (c .before .before .before .before .deepest .ensures) (c .before .before .before .if1 .left)
+    obeyed _ _ _ _ _ (own start) _ (start .pre .1 .1 .1 .1 .1)
+    (c .before .before .before .before .deepest .ensures) (c .before .before .before .if1 .left)
     _ _ _ _ _ _ (some-picked-as _ _ _ _ _ _ _ (c .before .tried-at .ensures) (c .if2 .left))
 
 less-requires : tie.Need-less-requires
@@ -116,12 +118,14 @@ put-requires c κs = search needs
 
 add-t24 : tie.Need-add-t24
 add-t24 c =
-    let long = c .before .before .before .before .before .before .before .before .before .before .before .before .before .before .before .before .before .before .before .good .1 .1 .1 .1 .1 .1 .0 .0 in
+    let less = c .before .before .before .before .before .before .before .before .before in
+    let start = less .before .before .before .before .before .before .before .before .before .before in
+    let long = start .good .1 .1 .1 .1 .1 .1 .0 .0 in
     omega (
       arith,
       c .before .before .before .before .before .if4 .left,
-      c .before .before .before .before .before .before .before .before .before .less .ensures,
-      c .before .before .before .before .before .before .before .before .before .before .before .before .before .before .before .before .before .before .before .pre .1 .1 .1 .1 .1,
+      less .less .ensures,
+      start .pre .1 .1 .1 .1 .1,
       long,
     )
 

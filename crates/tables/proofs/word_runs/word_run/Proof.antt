@@ -37,7 +37,8 @@ same-length c = search needs
 
 returns-3 : tie.Need-returns-3
 returns-3 c =
-    ran-letter _ _ (c .before .before .before .before .if1 .left) (c .before .before .before .if2 .left) _ (c .before .first-other .ensures) (c .if3 .taken)
+    ran-letter _ _ (c .before .before .before .before .if1 .left) (c .before .before .before .if2 .left) _
+    (c .before .first-other .ensures) (c .if3 .taken)
 
 -- the word is read
 taken-of : (c : tie.Else3) → Taken (c .before .before .before .before .before .before .before .before .args .word .now)
@@ -62,9 +63,10 @@ enum-known-walked c = search needs
 
 -- the letters that the walk left
 stem-of : (c : tie.After-known-told)
-    → (let a = c .before .before .before .before .before .before .before .before .before .before .before .before .before .before .before .before .before .before .before .args in
+    → (let walk = c .before .before .before .before .before in
+    let a = walk .before .before .before .before .before .before .before .before .before .before .before .before .before .before .args in
     Stem (walkWord (nodesIn (a .table .now)) (groupsOf (a .sheet .now)) (a .word .now)) (c .before .walked .given .0 .0)
-    (c .before .before .before .before .before .walk-groups .last .1 .1 .0))
+    (walk .walk-groups .last .1 .1 .0))
 stem-of c = left-of _ _ _ _ (c .before .before .before .before .before .walk-groups .ensures) (c .before .walked .given .1)
 
 fill-requires : tie.Need-fill-requires
@@ -78,9 +80,10 @@ array-share-prefix-saved c = search needs
 
 slice-aggregate-put-2 : tie.Need-slice-aggregate-put-2
 slice-aggregate-put-2 c =
-    let word = c .before .before .before .before .before .before .before .before .before .before .before .before .before .before .before .before .before .before .before .before .args .word .now in
-    let short = c .before .before .before .before .before .before .before .before .before .before .before .before .before .before .before .if2 .left in
-    let saved = c .before .before .before .before .before .before .before .before .before .put in
+    let after = c .before .before .before .before .before .before .before .before .before in
+    let word = after .before .before .before .before .before .before .before .before .before .before .before .args .word .now in
+    let short = after .before .before .before .before .before .before .if2 .left in
+    let saved = after .put in
     sym (length-take-le (length word) (saved .last .0) (omega (arith, saved .kept .0)))
 
 put-requires-2 : tie.Need-put-requires-2
@@ -92,9 +95,10 @@ same-length-2 c = search needs
 returns-4 : tie.Need-returns-4
 returns-4 c =
     let left = stem-of (c .before .before .before .before) in
-    let kept = c .before .before .before .before .before .before .before .before .before .walk-groups .kept .1 .1 .0 in
+    let walk = c .before .before .before .before .before .before .before .before .before in
+    let kept = walk .walk-groups .kept .1 .1 .0 in
     let filled = placed-letters _ (left .stem) _ _ _ (left .letters) (left .within) kept (c .before .before .fill .ensures) in
-    let taken = taken-of (c .before .before .before .before .before .before .before .before .before .before .before .before .before .before .before) in
+    let taken = taken-of (walk .before .before .before .before .before .before) in
     ran-done _ _ taken (left .stem) _ _ (left .is-done) (filled .1) (filled .0)
 
 same-length-3 : tie.Need-same-length-3
@@ -102,13 +106,14 @@ same-length-3 c = search needs
 
 returns-5 : tie.Need-returns-5
 returns-5 c =
-    let word = c .before .before .before .before .before .before .before .before .before .before .before .before .before .before .before .before .before .before .before .before .before .before .before .args .word .now in
-    let walked = c .before .before .before .before .before .before .before .before .before .walk-groups in
+    let walk = c .before .before .before .before .before .before .before .before .before in
+    let tested = walk .before .before .before .before .before .before in
+    let word = tested .before .before .before .before .before .before .before .before .args .word .now in
+    let walked = walk .walk-groups in
     let out = outgrown-of _ _ _ (walked .ensures) (c .before .before .before .before .before .enum-told .given .1) in
     let saved = c .before .before .before .before .before .before .before .before .before .before .before .before .put .ensures in
     let back = word-back word _ _ _ _ _ refl (omega arith) saved (walked .kept .1 .1 .0) (c .before .before .put2 .ensures) in
-    let taken = taken-of (c .before .before .before .before .before .before .before .before .before .before .before .before .before .before .before) in
-    ran-longer _ _ taken _ out back
+    ran-longer _ _ (taken-of tested) _ out back
 
 pub word-run-spec : {M : Type 1} → statement M
 word-run-spec =
