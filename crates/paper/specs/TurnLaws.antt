@@ -1,12 +1,12 @@
 -- One group more, as a loop over the groups goes, whoever says which rule is obeyed in each.
 use Prim.Native.Nat.{ℕ, _≤_}
-use Rattle.paper.specs.TestLaws.{by-test}
 use mathlib.Core.Path.{_≡_}
 use mathlib.Core.Bool.{Bool, true, false}
 use mathlib.Core.List.{List, _∷_}
 use lib.Dec.{leb}
 use lib.ListN.{length}
 use borrow.Author.Tests.{le-leb}
+use Rattle.paper.specs.TestLaws.{by-test}
 use Rattle.paper.specs.Groups.{runs, Turn, result, opensNext, steps, outgrown, reading, through}
 
 module _ (place : ℕ) {all turns : List Turn} {turn : Turn} (split : all ≡ turn ∷ turns) (opened : Bool) (word : List ℕ) where
