@@ -1,8 +1,8 @@
 -- When a group's result is no longer than its word, over any rule list; and that no shipped group's result is longer than
--- the word's place, so that every word is done (demand 2). Assumes nothing.
+-- the word's place, so that every word is done (demand 2).
 use Prim.Native.Nat.{ℕ, _+_, _≤_}
 use native.Mathlib.Omega.{arith}
-use mathlib.Core.Path.{_≡_, refl}
+use mathlib.Core.Path.{_≡_, refl, ap}
 use mathlib.Core.Bool.{Bool, true, false, cond, _&&_}
 use mathlib.Core.List.{List, [], _∷_}
 use mathlib.Core.Option.{Option, none, some}
@@ -84,7 +84,8 @@ group-length n word rules t = go (obeyed word rules) refl
         omega (arith, before-length word (one .ending))
 
 -- a group that is always run and whose rules are tame gives a word no longer than its own
-pub group-no-longer : (word : List ℕ) (rules : List Rule) → every (tame-rule 0) rules ≡ true → length (readGroup word rules .word) ≤ length word
+pub group-no-longer : (word : List ℕ) (rules : List Rule) → every (tame-rule 0) rules ≡ true
+    → length (readGroup word rules .word) ≤ length word
 group-no-longer word rules t = let n = group-length 0 word rules t in omega arith
 
 -- what reading gives is done, with a word that fits its place
@@ -142,3 +143,13 @@ shipped-tame = refl
 pub stem-done : (word : List ℕ) → Done (length word) (stem word)
 unfolding stem readWord
 stem-done word = tame-done (length word) shipped false word shipped-tame (omega arith)
+
+-- a word rule that never gives more letters than it was given
+abbrev pub NeverLengthens : (List ℕ → Reading) → Type 0
+NeverLengthens rule = (letters left : List ℕ) → rule letters ≡ done left → length left ≤ length letters
+
+pub stem-never-lengthens : NeverLengthens stem
+stem-never-lengthens letters left leaves =
+    let found = stem-done letters in
+    let same : found .0 ≡ left = cc in
+    omega (arith, found .2, ap length same)

@@ -5,7 +5,7 @@ pub mod Conditions
 pub mod Groups
 pub mod Shipped
 pub mod Words
-pub mod Samples
+pub mod WordSamples
 pub mod TestLaws
 pub mod LettersLaws
 pub mod GroupsLaws
