@@ -5,12 +5,12 @@ use native.Mathlib.Omega.{arith}
 use mathlib.Core.Path.{_≡_, refl, sym}
 use mathlib.Core.Bool.{true, false, not}
 use mathlib.Core.List.{List, [], _∷_, _++_}
-use lib.Dec.{ltb}
+use lib.Dec.{eqb, ltb}
 use lib.ListN.{length, take, drop, getD, replicate}
 use lib.Seq.{drop-cons, length-take-le}
-use borrow.Author.Tests.{eq-eqb, ne-eqb, lt-ltb, le-ltb}
+use borrow.Author.Tests.{eq-eqb, ne-eqb, lt-ltb, le-ltb, ltb-false}
 use Rattle.paper.specs.Groups.{Reading, done, outgrown}
-use Rattle.paper.specs.TestLaws.{by-test, or-right}
+use Rattle.paper.specs.TestLaws.{by-test, or-right, neither-right}
 use Rattle.paper.specs.Words.{placed, wrongLength, small, allSmall, firstOther, Gives}
 use Rattle.paper.specs.Words.{taken, turnedDown, judged, readingOutcome, judgedOutcome, wordOutcome}
 
@@ -57,6 +57,13 @@ module _ (word : List ℕ) where
     pub judged-taken : allSmall word ≡ true → judged word ≡ taken
     unfolding judged wrongLength
     judged-taken all = rw (ne-eqb (length word) 0 some, le-ltb 64 (length word) most, all)
+
+pub taken-short : (word : List ℕ) → taken ≡ judged word → length word ≤ 64
+unfolding judged wrongLength
+taken-short word is =
+    by-test (wrongLength word)
+    (λ wrong. let refused : taken ≡ turnedDown 1 0 = rw wrong at is in let no : _≡_ {A = ℕ} 0 1 = cc in absurd (omega arith))
+    (λ right. ltb-false 64 (length word) (neither-right (eqb (length word) 0) _ right))
 
 -- ## The outcome, whatever reads the word
 

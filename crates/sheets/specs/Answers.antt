@@ -18,7 +18,7 @@ use Rattle.sheets.specs.Records.{
   cut,
 }
 use Rattle.sheets.specs.Sheets.{Sheet, refused, accepted, readSheet}
-use Rattle.sheets.specs.Nodes.{nodeCount}
+use Rattle.paper.specs.Nodes.{nodeCount}
 use Rattle.sheets.specs.declared.Checked.{Checked}
 use Rattle.sheets.specs.declared.Checked.the-variants.{Accepted, Refused}
 use Rattle.sheets.specs.declared.records.Record.{Record}

@@ -10,7 +10,7 @@ use lib.ListN.{length, drop, length-append}
 use Rattle.paper.specs.Groups.{Rule}
 use Rattle.sheets.specs.Records.{bodyLength, body, after, gate, rule, ending, misplacedGroup, misplacedRule, faulty}
 use Rattle.sheets.specs.Sheets.{Rest, readRest, whole, readSheet}
-use Rattle.sheets.specs.Nodes.{tailsOf, distinct, nodeCount}
+use Rattle.paper.specs.Nodes.{tailsOf, distinct, nodeCount}
 use Rattle.sheets.specs.Bytes.{recordOf, ruleBody, rulesBytes}
 use Rattle.sheets.specs.Answers.{answer, checked}
 use Rattle.sheets.specs.Earlier.{endingIn, tailsIn, tails-in}

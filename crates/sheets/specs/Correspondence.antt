@@ -10,7 +10,7 @@ use Rattle.paper.specs.Groups.{Group}
 use Rattle.sheets.specs.Sheets.{Sheet, refused, accepted, readSheet}
 use Rattle.sheets.specs.Answers.{numberOf, answer, checked}
 use Rattle.sheets.specs.Bytes.{sheetOf, bounded}
-use Rattle.sheets.specs.Nodes.{nodeCount}
+use Rattle.paper.specs.Nodes.{nodeCount}
 use Rattle.sheets.specs.NodeLaws.{at-most-1552}
 use Rattle.sheets.specs.ReadBack.{read-back}
 use Rattle.sheets.specs.WriteBack.{write-back}

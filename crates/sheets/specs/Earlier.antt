@@ -7,7 +7,7 @@ use lib.Seq.{take-append-seam}
 use Rattle.paper.specs.Groups.{Rule}
 use Rattle.sheets.specs.Records.{after}
 use Rattle.sheets.specs.Bytes.{two, recordOf, replacementOf, ruleBody, rulesBytes}
-use Rattle.sheets.specs.Nodes.{tails, tailsOf}
+use Rattle.paper.specs.Nodes.{tails, tailsOf}
 use Rattle.sheets.specs.ByteLaws.{after-read}
 
 -- S1 of the rule with which these bytes start

@@ -7,7 +7,7 @@ use native.Mathlib.Omega.{arith}
 use lib.ListN.{length}
 use Rattle.paper.specs.Groups.{Rule, Gate}
 use Rattle.sheets.specs.Sheets.{Rest, faulty-at, holding, ruleThen, groupThen}
-use Rattle.sheets.specs.Nodes.{tailsOf, distinct, nodeCount}
+use Rattle.paper.specs.Nodes.{tailsOf, distinct, nodeCount}
 use Rattle.sheets.specs.Bytes.{recordOf, ruleBody, rulesBytes}
 use Rattle.sheets.specs.LookBack.{shared, look-back}
 use Rattle.sheets.specs.declared.Checked.{Checked}

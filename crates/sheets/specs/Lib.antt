@@ -1,8 +1,8 @@
--- Document 01, "The sheet", and of "The table" the node count. First the definitions, in 01's order, and what the check answers.
+-- Document 01, "The sheet". First the definitions, in 01's order, and what the check answers.
 pub mod Records
 pub mod Sheets
-pub mod Nodes
 pub mod Answers
+pub mod Accepted
 -- Then the same from the other side, the bytes of a list of groups, and that the two correspond; 01's samples.
 pub mod Bytes
 pub mod Correspondence
@@ -23,7 +23,6 @@ pub mod ReadRecords
 pub mod ReadBack
 pub mod WriteBack
 -- Laws of the node count, and of looking back for it
-pub mod MemberLaws
 pub mod LookBack
 pub mod NodeLaws
 pub mod SharedTails
@@ -32,3 +31,6 @@ pub mod Finished
 -- The check, place by place
 pub mod PlaceLaws
 pub mod CheckLaws
+-- Going through an accepted sheet, record by record
+pub mod SheetPlaces
+pub mod RulePlaces

@@ -7,8 +7,8 @@ use mathlib.Core.List.{List, [], _∷_, _++_, append-assoc}
 use native.Mathlib.Omega.{arith}
 use lib.ListN.{length}
 use Rattle.paper.specs.Groups.{Rule, same}
-use Rattle.sheets.specs.Nodes.{tails, tailsOf, member, distinct}
-use Rattle.sheets.specs.MemberLaws.{member-append, Alike, swapped, distinct-alike, Closed, closed-rules}
+use Rattle.paper.specs.Nodes.{tails, tailsOf, member, distinct}
+use Rattle.paper.specs.MemberLaws.{member-append, Alike, swapped, distinct-alike, Closed, closed-rules}
 use Rattle.paper.specs.TestLaws.{or-cases}
 use Rattle.paper.specs.GroupsLaws.{same-equal, same-itself, differ-same}
 

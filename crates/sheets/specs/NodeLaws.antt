@@ -8,7 +8,7 @@ use lib.Dec.{leb}
 use lib.ListN.{length, length-append}
 use borrow.Author.Tests.{leb-true}
 use Rattle.paper.specs.Groups.{Rule, Group}
-use Rattle.sheets.specs.Nodes.{tails, tailsOf, member, distinct, nodeCount}
+use Rattle.paper.specs.Nodes.{tails, tailsOf, member, distinct, nodeCount}
 use Rattle.sheets.specs.Bytes.{allowed, allAllowed, groupsAllowed, ruleCount, firstAlways, bounded}
 use Rattle.paper.specs.TestLaws.{and-left, and-right}
 use Rattle.sheets.specs.WrittenRules.{bounds}

@@ -9,7 +9,7 @@ use borrow.Author.Tests.{leb-true, leb-false}
 use lib.ListN.{length, getD, drop, length-drop}
 use lib.Seq.{getD-drop}
 use Rattle.paper.specs.Groups.{same}
-use Rattle.sheets.specs.Nodes.{tails, member}
+use Rattle.paper.specs.Nodes.{tails, member}
 use Rattle.sheets.specs.LookBack.{shared, shared-at-most}
 use Rattle.paper.specs.GroupsLaws.{same-equal, same-itself}
 

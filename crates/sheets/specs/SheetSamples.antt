@@ -34,7 +34,7 @@ use Rattle.sheets.specs.Records.{
 }
 use Rattle.sheets.specs.Sheets.{readRest, readSheet}
 use Rattle.sheets.specs.Bytes.{two, recordOf, gateBody, ruleBody, rulesBytes, groupsBytes, sheetOf}
-use Rattle.sheets.specs.Nodes.{tails, tailsOf, member, distinct, nodeCount}
+use Rattle.paper.specs.Nodes.{tails, tailsOf, member, distinct, nodeCount}
 use Rattle.sheets.specs.Answers.{checked}
 use Rattle.sheets.specs.declared.Checked.{Checked}
 use Rattle.sheets.specs.declared.Checked.the-variants.{Accepted, Refused}

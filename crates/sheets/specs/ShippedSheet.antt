@@ -22,7 +22,7 @@ use Rattle.sheets.specs.Bytes.{
   bounded,
 }
 use Rattle.sheets.specs.Sheets.{accepted, readSheet}
-use Rattle.sheets.specs.Nodes.{tails, tailsOf, member, distinct, nodeCount}
+use Rattle.paper.specs.Nodes.{tails, tailsOf, member, distinct, nodeCount}
 use Rattle.sheets.specs.Answers.{answer, checked}
 use Rattle.sheets.specs.ReadBack.{read-back}
 use Rattle.sheets.specs.declared.Checked.the-variants.{Accepted}

@@ -1,5 +1,5 @@
-// Rule sheets: the record at a place, the check of a whole sheet, the reader that holds the caller's sheet and its place,
-// and the shipped rules as a sheet.
+// Rule sheets: the record at a place, the check of a whole sheet, and the reader that holds the caller's sheet and its
+// place.
 ghost use mathlib.Core.Path.{_≡_};
 ghost use mathlib.Core.Bool.{_&&_, _||_};
 ghost use lib.Dec.{eqb, leb};
@@ -9,7 +9,6 @@ mod nodes;
 mod numbers;
 pub mod reader;
 pub mod records;
-pub mod shipped;
 
 use nodes::longest_shared;
 use reader::draw;

@@ -4,7 +4,7 @@ ghost use mathlib.Core.Path.{_≡_};
 ghost use Prim.Native.Nat.{max};
 ghost use lib.ListN.{drop};
 ghost use Rattle.sheets.specs.Records.{after};
-ghost use Rattle.sheets.specs.Nodes.{tails};
+ghost use Rattle.paper.specs.Nodes.{tails};
 ghost use Rattle.sheets.specs.LookBack.{shared};
 ghost use Rattle.sheets.specs.Earlier.{endingIn, tailsIn};
 use crate::numbers::pair;

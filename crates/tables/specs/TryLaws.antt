@@ -15,10 +15,10 @@ use Rattle.sheets.specs.Records.{body, rule}
 use Rattle.sheets.specs.Sheets.{Rest, faulty-at, holding, readRest}
 use Rattle.sheets.specs.Answers.{recordIn}
 use Rattle.sheets.specs.declared.records.Record.the-variants.{Group as GroupRecord, Rule as RuleRecord, End as EndRecord}
-use Rattle.tables.specs.Walk.{reached, held}
-use Rattle.tables.specs.PickLaws.{pick}
-use Rattle.tables.specs.SheetPlaces.{Holding, RuleNext, group-next, rule-next, end-next}
-use Rattle.tables.specs.RulePlaces.{RuleFacts, rule-facts}
+use Rattle.walks.specs.Walk.{reached, held}
+use Rattle.walks.specs.PickLaws.{pick}
+use Rattle.sheets.specs.SheetPlaces.{Holding, RuleNext, group-next, rule-next, end-next}
+use Rattle.sheets.specs.RulePlaces.{RuleFacts, rule-facts}
 
 -- the rules up to the next group, and the groups, that the rest of a sheet holds
 unfoldable pub rulesOf : Rest → List Rule

@@ -11,13 +11,13 @@ use lib.Seq.{take-length}
 use Rattle.paper.specs.Groups.{Rule, Gate, always, if-opened, Group, Result, done, outgrown, runs}
 use Rattle.sheets.specs.Answers.{recordIn}
 use Rattle.sheets.specs.declared.records.Record.the-variants.{End as EndRecord}
-use Rattle.tables.specs.Walk.{walkGroup, walk, walkWord}
+use Rattle.walks.specs.Walk.{walkGroup, walk, walkWord}
 use Rattle.paper.specs.TestLaws.{by-test}
-use Rattle.tables.specs.Answers.{groupsOf}
-use Rattle.tables.specs.GoingLaws.{Accepted}
-use Rattle.tables.specs.SheetPlaces.{Holding, holding-start, GroupNext, RuleNext, end-next}
+use Rattle.sheets.specs.Accepted.{groupsOf}
+use Rattle.sheets.specs.Accepted.{Accepted}
+use Rattle.sheets.specs.SheetPlaces.{Holding, holding-start, GroupNext, RuleNext, end-next}
 use Rattle.tables.specs.TryLaws.{rulesOf, groupsAfter, restAt, Readable}
-use Rattle.tables.specs.StepLaws.{Stepped}
+use Rattle.tables.specs.GroupStepLaws.{Stepped}
 
 -- the rest of the sheet decides what the walk leaves
 pub record Walking (table sheet first : List ℕ) (at next rules : ℕ) (opened : Bool) (word : List ℕ) : Type 0 where

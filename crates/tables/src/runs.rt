@@ -2,34 +2,16 @@
 ghost use mathlib.Core.Path.{_≡_};
 ghost use Prim.Native.Nat.{_+_, _-_, _<_, _≤_};
 ghost use lib.ListN.{length, take, drop};
-ghost use Rattle.paper.specs.Groups.{same};
-ghost use Rattle.tables.specs.Answers.{groupsOf};
-ghost use Rattle.tables.specs.GoingLaws.{Accepted};
-ghost use Rattle.tables.specs.Walk.{walkGroup, walkWord};
+ghost use Rattle.sheets.specs.Accepted.{groupsOf};
+ghost use Rattle.sheets.specs.Accepted.{Accepted};
+ghost use Rattle.walks.specs.Walk.{walkGroup, walkWord};
 ghost use Rattle.tables.specs.WalkAnswers.{WalkedAs};
-ghost use Rattle.tables.specs.StepLaws.{Stepped};
+ghost use Rattle.tables.specs.GroupStepLaws.{Stepped};
 ghost use Rattle.tables.specs.TryLaws.{Readable, PickedAs, picked, rulesOf, restAt, obeys as obeysOf};
-use crate::walks::deepest;
-use crate::walks::held_at;
+use crate::paths::deepest;
+use crate::paths::held_at;
 use sheets::reader::draw;
 use sheets::records::Record;
-
-// Whether two tables have the same numbers.
-pub(crate) fn same_numbers(one: &[u16], other: &[u16]) -> bool
-    ensures { λ r. ⌜ r ≡ same (now (one .entry)) (now (other .entry)) ⌝ }
-{
-    if one.len() != other.len() {
-        return false;
-    }
-    let mut i = 0;
-    while i < one.len() {
-        if one[i] != other[i] {
-            return false;
-        }
-        i += 1;
-    }
-    true
-}
 
 // What is left of a number after another is taken away, or 0.
 fn less(one: usize, other: usize) -> usize

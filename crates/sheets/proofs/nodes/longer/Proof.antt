@@ -5,7 +5,7 @@ use mathlib.Core.Path.{_≡_}
 use mathlib.Core.List.{List}
 use native.Mathlib.Omega.{arith}
 use borrow.Author.Needs.{needs}
-use Rattle.sheets.specs.Nodes.{tails}
+use Rattle.paper.specs.Nodes.{tails}
 use Rattle.sheets.specs.LookBack.{shared}
 use Rattle.sheets.specs.SharedTails.{Stop, shared-below}
 use Rattle.sheets.proofs.nodes.longer.Statement.{statement}

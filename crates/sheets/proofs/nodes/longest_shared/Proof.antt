@@ -7,7 +7,7 @@ use mathlib.Core.List.{List, [], _∷_, _++_}
 use native.Mathlib.Omega.{arith}
 use lib.ListN.{drop}
 use Rattle.sheets.specs.Records.{after}
-use Rattle.sheets.specs.Nodes.{tails, member}
+use Rattle.paper.specs.Nodes.{tails, member}
 use Rattle.sheets.specs.LookBack.{shared, shared-append}
 use Rattle.sheets.specs.Earlier.{endingIn, tailsIn}
 use Rattle.sheets.proofs.nodes.longest_shared.Statement.{statement}

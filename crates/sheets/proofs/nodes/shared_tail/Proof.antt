@@ -6,7 +6,7 @@ use mathlib.Core.List.{List, _∷_}
 use native.Mathlib.Omega.{arith}
 use lib.ListN.{length, getD, drop}
 use lib.Seq.{drop-cons, drop-length}
-use Rattle.sheets.specs.Nodes.{tails}
+use Rattle.paper.specs.Nodes.{tails}
 use Rattle.sheets.specs.LookBack.{shared}
 use Rattle.sheets.specs.SharedTails.{Equal, Stop, shared-is}
 use Rattle.sheets.proofs.nodes.shared_tail.Statement.{statement}

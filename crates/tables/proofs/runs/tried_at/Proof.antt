@@ -4,8 +4,8 @@ use mathlib.Core.Path.{sym, _∙_}
 use native.Mathlib.Omega.{arith}
 use lib.ListN.{length}
 use borrow.Author.Needs.{needs}
-use Rattle.tables.specs.SheetPlaces.{RuleNext, never-over, never-alone, rule-next}
-use Rattle.tables.specs.RulePlaces.{rule-facts}
+use Rattle.sheets.specs.SheetPlaces.{RuleNext, never-over, never-alone, rule-next}
+use Rattle.sheets.specs.RulePlaces.{rule-facts}
 use Rattle.tables.specs.TryLaws.{
   Trying,
   trying-start,

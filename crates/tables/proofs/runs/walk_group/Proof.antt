@@ -6,9 +6,9 @@ use mathlib.Core.List.{List}
 use lib.ListN.{take}
 use lib.Seq.{length-take-le}
 use Rattle.paper.specs.Groups.{Rule}
-use Rattle.tables.specs.Walk.{walkGroup}
+use Rattle.walks.specs.Walk.{walkGroup}
 use Rattle.tables.specs.TryLaws.{rulesOf, restAt, none-picked-as, some-picked-as}
-use Rattle.tables.specs.StepLaws.{step-none, step-turned-down, Obeyed, obeyed}
+use Rattle.tables.specs.GroupStepLaws.{step-none, step-turned-down, Obeyed, obeyed}
 use borrow.Author.Needs.{needs}
 use Rattle.tables.proofs.runs.walk_group.Statement.{statement}
 use Rattle.tables.proofs.runs.walk_group.Tie as tie
