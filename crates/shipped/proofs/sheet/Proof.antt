@@ -1,14 +1,14 @@
--- `shipped::sheet` meets its contract: the constant is what the bytes of the shipped rules compute to.
--- Assumes nothing.
+-- `shipped::sheet` meets its contract: the constant is the bytes of the shipped rules.
 use mathlib.Core.Path.{refl}
 use Rattle.paper.specs.Shipped.{shipped}
 use Rattle.sheets.specs.Bytes.{two, recordOf, gateBody, ruleBody, rulesBytes, groupsBytes, sheetOf}
 use Rattle.shipped.proofs.sheet.Statement.{statement}
 use Rattle.shipped.proofs.sheet.Tie as tie
 
-returns : tie.Need-returns
+-- one computed test over all bytes of the constant
+sheet-is-the-rules : tie.Need-returns
 unfolding shipped two recordOf gateBody ruleBody rulesBytes groupsBytes sheetOf
-returns c = refl
+sheet-is-the-rules c = refl
 
 pub sheet-spec : {M : Type 1} → statement M
-sheet-spec = tie.close (tie.spec returns)
+sheet-spec = tie.close (tie.spec sheet-is-the-rules)
