@@ -1,4 +1,4 @@
--- A call's numbers as one number. Assumes nothing.
+-- A call's numbers as one number.
 use Prim.Native.Nat.{ℕ, _+_, _*_, _^_}
 use Rattle.paper.specs.Words.{Outcome}
 use Rattle.texts.specs.Texts.{Outcome as TextOutcome}

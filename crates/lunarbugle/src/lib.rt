@@ -1,7 +1,7 @@
 // The entries for hosts in C: each answers with packed numbers. `include/lunarbugle.h` declares them.
 ghost use mathlib.Core.Path.{_≡_};
-ghost use Rattle.paper.specs.Words.{outcome};
-ghost use Rattle.texts.specs.Texts.{outcome as textOutcome};
+ghost use Rattle.paper.specs.Words.{outcome, stem};
+ghost use Rattle.texts.specs.Texts.{textOutcome};
 ghost use Rattle.lunarbugle.specs.Packed.{packed, packedText};
 
 // The word stemmer: 01's number, plus 256 times the value returned besides it.
@@ -11,16 +11,16 @@ pub extern "C" fn lunarbugle_stem(word: &mut [u8]) -> u64
     ensures { λ _. ⌜ now (word .exit) ≡ outcome (now (word .entry)) .place ⌝ }
 {
     let answer = words::stem(word);
-    let number = words::number(answer) as u64;
-    let value = words::value(answer) as u64;
+    let number = places::number(answer) as u64;
+    let value = places::value(answer) as u64;
     number + 256 * value
 }
 
 // The text run: 01's number, plus 256 times the words stemmed, plus 2^32 times the words left.
 #[no_mangle]
 pub extern "C" fn lunarbugle_text(text: &mut [u8]) -> u64
-    ensures { λ r. ⌜ r ≡ packedText (textOutcome (now (text .entry))) ⌝ }
-    ensures { λ _. ⌜ now (text .exit) ≡ textOutcome (now (text .entry)) .text ⌝ }
+    ensures { λ r. ⌜ r ≡ packedText (textOutcome stem (now (text .entry))) ⌝ }
+    ensures { λ _. ⌜ now (text .exit) ≡ textOutcome stem (now (text .entry)) .text ⌝ }
 {
     let answer = texts::run(text);
     let number = texts::number(answer) as u64;

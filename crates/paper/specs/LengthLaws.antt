@@ -2,7 +2,7 @@
 -- than it was given, so that every word is done (demand 2).
 use Prim.Native.Nat.{ℕ, _+_, _≤_}
 use native.Mathlib.Omega.{arith}
-use mathlib.Core.Path.{_≡_, refl}
+use mathlib.Core.Path.{_≡_, refl, ap}
 use mathlib.Core.Bool.{Bool, true, false, cond, _&&_}
 use mathlib.Core.List.{List, [], _∷_, map}
 use mathlib.Core.Option.{Option, none, some}
@@ -119,3 +119,13 @@ shipped-fits word = tame-fits (length word) shipped false word shipped-tame (ome
 pub stem-done : (word : List ℕ) → Done (length word) (stem word)
 unfolding stem readWord
 stem-done word = fits-done (length word) word _ (omega arith) (shipped-fits word)
+
+-- a word rule that never gives more letters than it was given
+abbrev pub NeverLengthens : (List ℕ → Reading) → Type 0
+NeverLengthens rule = (letters left : List ℕ) → rule letters ≡ done left → length left ≤ length letters
+
+pub stem-never-lengthens : NeverLengthens stem
+stem-never-lengthens letters left leaves =
+    let found = stem-done letters in
+    let same : found .0 ≡ left = cc in
+    omega (arith, found .2, ap length same)

@@ -7,7 +7,7 @@ pub mod Shipped
 pub mod Words
 pub mod Numbered
 pub mod Nodes
-pub mod Samples
+pub mod WordSamples
 pub mod TestLaws
 pub mod LettersLaws
 pub mod GroupsLaws

@@ -1,5 +1,6 @@
--- The stem of a word, and what a call on a word answers: document 01, "Numbers returned". Assumes nothing.
+-- The stem of a word, and what a call on a word answers: document 01, "Numbers returned".
 use Prim.Native.Nat.{ℕ, _-_}
+use mathlib.Core.Path.{_≡_}
 use mathlib.Core.Bool.{Bool, true, false, cond, _&&_, _||_}
 use mathlib.Core.List.{List, [], _∷_, _++_, map}
 use lib.Dec.{eqb, leb, ltb}
@@ -43,20 +44,37 @@ pub record Outcome : Type 0 where
   pub value : ℕ
   pub place : List ℕ
 
+-- a call gives this number and this value, and leaves these bytes in what was lent
+pub record Gives (outcome : Outcome) (number value : ℕ) (after : List ℕ) : Type 0 where
+  pub number-is : number ≡ outcome .number
+  pub value-is : value ≡ outcome .value
+  pub place-is : after ≡ outcome .place
+
 -- "Every refusal leaves all that was lent unchanged."
-abbrev pub refused : ℕ → List ℕ → Outcome
-refused number word = record { number = number; value = 0; place = word }
+abbrev pub refused : ℕ → ℕ → List ℕ → Outcome
+refused number value word = record { number = number; value = value; place = word }
+
+-- what is said of a word before it is read: it is taken, or refused with a number and a value
+pub data Judgement : Type 0 where
+  taken : Judgement
+  turnedDown : ℕ → ℕ → Judgement
+
+-- "1, 2 .. for a word"
+unfoldable pub judged : List ℕ → Judgement
+judged word = cond (wrongLength word) (turnedDown 1 0) (cond (allSmall word) taken (turnedDown 2 0))
 
 unfoldable pub readingOutcome : List ℕ → Reading → Outcome
 readingOutcome word (done stem) = record { number = 0; value = length stem; place = placed word stem }
-readingOutcome word outgrown = refused 4 word
+readingOutcome word outgrown = refused 4 0 word
+
+unfoldable pub judgedOutcome : List ℕ → Reading → Judgement → Outcome
+judgedOutcome word reading taken = readingOutcome word reading
+judgedOutcome word reading (turnedDown number value) = refused number value word
 
 -- a call on a word, whatever reads it: "1, 2, 4 for a word"
 unfoldable pub wordOutcome : (List ℕ → Reading) → List ℕ → Outcome
-wordOutcome reading word =
-    cond (wrongLength word) (refused 1 word)
-    (cond (ltb (firstOther word) (length word)) (refused 2 word) (readingOutcome word (reading word)))
+wordOutcome reading word = judgedOutcome word (reading word) (judged word)
 
 -- a call of the word stemmer
-unfoldable pub outcome : List ℕ → Outcome
+abbrev pub outcome : List ℕ → Outcome
 outcome word = wordOutcome stem word

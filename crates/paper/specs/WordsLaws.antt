@@ -1,16 +1,20 @@
--- Laws of a call on a word. Assumes nothing.
-use Prim.Native.Nat.{ℕ, suc, _≤_, _<_}
-use mathlib.Core.Path.{_≡_}
-use mathlib.Core.Bool.{true, false, or-true}
-use mathlib.Core.List.{List}
-use lib.Dec.{eqb}
-use lib.ListN.{length, drop, getD}
-use lib.Seq.{drop-cons}
-use borrow.Author.Tests.{eq-eqb, ne-eqb, lt-ltb, le-ltb}
-use Rattle.paper.specs.Groups.{Reading}
-use Rattle.paper.specs.Words.{small, firstOther, wrongLength, refused, readingOutcome, wordOutcome}
+-- Laws of a call on a word: the first byte outside a to z, what is said of a word before it is read, and from the ways out of
+-- a call to its outcome, whatever reads the word.
+use Prim.Native.Nat.{ℕ, suc, _-_, _≤_, _<_, compare·suc-suc}
+use native.Mathlib.Omega.{arith}
+use mathlib.Core.Path.{_≡_, refl, sym}
+use mathlib.Core.Bool.{true, false, not}
+use mathlib.Core.List.{List, [], _∷_, _++_}
+use lib.Dec.{eqb, ltb}
+use lib.ListN.{length, take, drop, getD, replicate}
+use lib.Seq.{drop-cons, length-take-le}
+use borrow.Author.Tests.{eq-eqb, ne-eqb, lt-ltb, le-ltb, ltb-false}
+use Rattle.paper.specs.Groups.{Reading, done, outgrown}
+use Rattle.paper.specs.TestLaws.{by-test, or-right, neither-right}
+use Rattle.paper.specs.Words.{placed, wrongLength, small, allSmall, firstOther, Gives}
+use Rattle.paper.specs.Words.{taken, turnedDown, judged, readingOutcome, judgedOutcome, wordOutcome}
 
--- ══ The first byte outside a to z ══
+-- ## The first byte outside a to z
 
 pub other-here :
     (word : List ℕ) (i : ℕ) → i < length word → small (getD word i 0) ≡ false → firstOther (drop i word) ≡ 0
@@ -25,25 +29,67 @@ pub other-later :
 unfolding firstOther
 other-later word i h e = rw (drop-cons word i 0 h, e)
 
--- ══ The cases of an outcome, whatever reads the word ══
+-- the first byte outside a to z stands in the word exactly if not every byte is from a to z
+pub other-inside : (word : List ℕ) → ltb (firstOther word) (length word) ≡ not (allSmall word)
+unfolding firstOther allSmall
+other-inside [] = refl
+other-inside (byte ∷ bytes) =
+    by-test (small byte)
+    (λ is. rw (is, compare·suc-suc) (other-inside bytes))
+    (λ is. rw is (lt-ltb 0 (suc (length bytes)) (omega arith)))
 
-module _ (reading : List ℕ → Reading) (word : List ℕ) where
-  pub outcome-empty : length word ≡ 0 → wordOutcome reading word ≡ refused 1 word
-  unfolding wordOutcome wrongLength
-  outcome-empty none = rw (eq-eqb (length word) 0 none)
+-- ## What is said of a word before it is read
 
-  pub outcome-long : 64 < length word → wordOutcome reading word ≡ refused 1 word
-  unfolding wordOutcome wrongLength
-  outcome-long long = rw (lt-ltb 64 (length word) long, or-true (eqb (length word) 0))
+module _ (word : List ℕ) where
+  pub judged-empty : length word ≡ 0 → judged word ≡ turnedDown 1 0
+  unfolding judged wrongLength
+  judged-empty none = rw (eq-eqb (length word) 0 none)
+
+  pub judged-long : 64 < length word → judged word ≡ turnedDown 1 0
+  unfolding judged wrongLength
+  judged-long long = rw (or-right _ _ (lt-ltb 64 (length word) long))
 
   module _ (some : length word ≡ 0 → ⊥) (most : length word ≤ 64) where
-    pub outcome-other : firstOther word < length word → wordOutcome reading word ≡ refused 2 word
-    unfolding wordOutcome wrongLength
-    outcome-other other =
-        rw (ne-eqb (length word) 0 some, le-ltb 64 (length word) most, lt-ltb (firstOther word) (length word) other)
+    pub judged-other : allSmall word ≡ false → judged word ≡ turnedDown 2 0
+    unfolding judged wrongLength
+    judged-other other = rw (ne-eqb (length word) 0 some, le-ltb 64 (length word) most, other)
 
-    pub outcome-read :
-        length word ≤ firstOther word → wordOutcome reading word ≡ readingOutcome word (reading word)
-    unfolding wordOutcome wrongLength
-    outcome-read all =
-        rw (ne-eqb (length word) 0 some, le-ltb 64 (length word) most, le-ltb (firstOther word) (length word) all)
+    pub judged-taken : allSmall word ≡ true → judged word ≡ taken
+    unfolding judged wrongLength
+    judged-taken all = rw (ne-eqb (length word) 0 some, le-ltb 64 (length word) most, all)
+
+pub taken-short : (word : List ℕ) → taken ≡ judged word → length word ≤ 64
+unfolding judged wrongLength
+taken-short word is =
+    by-test (wrongLength word)
+    (λ wrong. let refused : taken ≡ turnedDown 1 0 = rw wrong at is in let no : _≡_ {A = ℕ} 0 1 = cc in absurd (omega arith))
+    (λ right. ltb-false 64 (length word) (neither-right (eqb (length word) 0) _ right))
+
+-- ## The outcome, whatever reads the word
+
+module _ (reading : List ℕ → Reading) (word : List ℕ) where
+  -- a refusal leaves the word as it came
+  pub gives-refused : {number value : ℕ} → turnedDown number value ≡ judged word → Gives (wordOutcome reading word) number value word
+  unfolding wordOutcome judgedOutcome
+  gives-refused is = rw (← is) (record { number-is = refl; value-is = refl; place-is = refl })
+
+  module _ (is-taken : taken ≡ judged word) where
+    pub outcome-taken : wordOutcome reading word ≡ readingOutcome word (reading word)
+    unfolding wordOutcome judgedOutcome
+    outcome-taken = rw (← is-taken)
+
+    pub gives-outgrown : {after : List ℕ} → reading word ≡ outgrown → after ≡ word → Gives (wordOutcome reading word) 4 0 after
+    unfolding readingOutcome
+    gives-outgrown e same = rw (outcome-taken, e) (record { number-is = refl; value-is = refl; place-is = same })
+
+    -- the stem stands first, and spaces fill the rest
+    pub gives-done : (left after : List ℕ) (size : ℕ) → reading word ≡ done (take size left)
+        → size ≤ length left
+        → length left ≡ length word
+        → after ≡ take size left ++ replicate (length left - size) 32
+        → Gives (wordOutcome reading word) 0 size after
+    unfolding readingOutcome placed
+    gives-done left after size e short kept filled =
+        let long = length-take-le size left short in
+        rw (outcome-taken, e)
+        (record { number-is = refl; value-is = sym long; place-is = rw (long, ← kept) filled })

@@ -1,12 +1,12 @@
--- Letters put into a list, and what that comes to where they fit. Assumes nothing.
+-- Letters put into a list, and what that comes to where they fit.
 use Prim.Native.Nat.{ℕ, _+_, _≤_}
 use native.Mathlib.Omega.{arith}
-use mathlib.Core.Path.{_≡_}
+use mathlib.Core.Path.{_≡_, _∙_}
 use mathlib.Core.Bool.{cond}
-use mathlib.Core.List.{List, _++_}
+use mathlib.Core.List.{List, _++_, append-nil}
 use lib.Dec.{leb}
-use lib.ListN.{length, take}
-use lib.Seq.{paste, take-paste, take-length}
+use lib.ListN.{length, take, drop, drop-of-length-le}
+use lib.Seq.{paste, take-paste, take-append-seam, take-length}
 use borrow.Author.Tests.{le-leb}
 
 -- the letters in the places from `at` on, if all of them fit; else the list as it is
@@ -31,3 +31,14 @@ put-behind place part letters fits =
       take-paste place part letters (length letters) (omega arith) (omega arith),
       take-length letters,
     )
+
+-- a word that was put elsewhere and is put back stands there as it came
+pub put-back : (word zeros saved after back : List ℕ) (size : ℕ) → size ≡ length word → length word ≤ length zeros
+    → saved ≡ putAt zeros 0 word
+    → length after ≡ length word → back ≡ putAt after 0 (take size saved) → back ≡ word
+put-back word zeros saved after back size s long kept same-long there =
+    let put = put-fits zeros 0 word (omega arith) in
+    let whole : take size saved ≡ word = rw (s, kept, put, take-length word) (take-append-seam word (drop (0 + length word) zeros)) in
+    let again = put-fits after 0 word (omega arith) in
+    let over = drop-of-length-le after {i = 0 + length word} (omega arith) in
+    there ∙ rw (whole, again, take-length word, over, append-nil)

@@ -39,7 +39,7 @@ pub fn answered_next() -> bool {
 }
 
 fn answer_next(text: &[u8], from: usize) {
-    output::number(texts::next_word_at(text, from));
-    let word = texts::next_word(text, from);
+    output::number(pieces::next_word_at(text, from));
+    let word = pieces::next_word(text, from);
     output::number(word.len());
 }

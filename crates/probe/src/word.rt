@@ -15,8 +15,8 @@ pub fn answered() -> bool {
 }
 
 fn answer(word: &mut [u8]) {
-    let stemmed = words::stem(word);
-    output::byte(words::number(stemmed));
-    output::number(words::value(stemmed));
+    let answer = words::stem(word);
+    output::byte(places::number(answer));
+    output::number(places::value(answer));
     output::bytes(word);
 }

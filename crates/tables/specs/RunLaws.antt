@@ -1,4 +1,4 @@
--- What the run of a table answers, case by case. Assumes nothing.
+-- What the run of a table answers, case by case.
 use Prim.Native.Nat.{ℕ, _*_, _<_, _≤_}
 use mathlib.Core.Path.{_≡_, refl, sym, ap, _∙_}
 use mathlib.Core.Bool.{Bool, true, false}
@@ -9,7 +9,7 @@ use lib.ListN.{length, take, drop}
 use lib.Seq.{take-at, take-all}
 use borrow.Author.Tests.{ltb-true}
 use Rattle.paper.specs.Groups.{same}
-use Rattle.paper.specs.Words.{wordOutcome}
+use Rattle.paper.specs.Words.{wordOutcome, Gives}
 use Rattle.sheets.specs.Apart.{apart}
 use Rattle.sheets.specs.Sheets.{Sheet, refused, accepted, readSheet}
 use Rattle.paper.specs.Nodes.{nodeCount}
@@ -23,10 +23,7 @@ use Rattle.siblings.specs.CountLaws.{table-length}
 use Rattle.siblings.specs.GoingLaws.{small-table}
 use Rattle.sheets.specs.Accepted.{Accepted}
 use Rattle.tables.specs.RunOutcomes.{rightTable, runOf, runOutcome}
-use Rattle.tables.specs.RunNumbers.{RanAs}
 use Rattle.paper.specs.GroupsLaws.{same-long}
-use Rattle.tables.specs.declared.Ran.{Ran}
-use Rattle.tables.specs.declared.Ran.the-variants.{Refused as RanRefused, Table}
 use Rattle.siblings.specs.declared.Translated.the-variants.{Nodes, Refused, Short}
 
 -- What the translation's answer says of the sheet
@@ -59,8 +56,7 @@ nodes-by (accepted groups) own nodes e =
     (λ p. let given : Nodes nodes ≡ Nodes (nodeCount groups) = rw p at e in (refl, cc, rw p))
 
 module _ (sheet own table word : List ℕ) where
-  pub run-refused :
-      (place : ℕ) → Refused place ≡ translation sheet own .answer → RanAs (runOutcome sheet table word) (RanRefused place) word
+  pub run-refused : (place : ℕ) → Refused place ≡ translation sheet own .answer → Gives (runOutcome sheet table word) 3 place word
   unfolding translation runOutcome runOf
   run-refused place e = rw (refused-by (readSheet sheet) own place e) (record { number-is = refl; value-is = refl; place-is = refl })
 
@@ -86,11 +82,11 @@ module _ (sheet own table word : List ℕ) where
         (take-at (tableOf (groupsOf sheet)) (drop (4 * nodeCount (groupsOf sheet)) own) (4 * nodeCount (groupsOf sheet))
         (table-length (groupsOf sheet)))
 
-    wrong : rightTable (groupsOf sheet) table ≡ false → RanAs (runOutcome sheet table word) Table word
+    wrong : rightTable (groupsOf sheet) table ≡ false → Gives (runOutcome sheet table word) 7 0 word
     unfolding runOutcome runOf
     wrong w = rw (run-accepted .0, w) (record { number-is = refl; value-is = refl; place-is = refl })
 
-    pub run-missing : length table < 4 * nodes → RanAs (runOutcome sheet table word) Table word
+    pub run-missing : length table < 4 * nodes → Gives (runOutcome sheet table word) 7 0 word
     unfolding rightTable
     run-missing h =
         wrong (same-long (take (4 * nodeCount (groupsOf sheet)) table) (tableOf (groupsOf sheet))
@@ -103,11 +99,11 @@ module _ (sheet own table word : List ℕ) where
       unfolding rightTable
       right-by = sym (compared ∙ rw (own-front after there, run-accepted .1))
 
-      pub run-other : test ≡ false → RanAs (runOutcome sheet table word) Table word
+      pub run-other : test ≡ false → Gives (runOutcome sheet table word) 7 0 word
       run-other t = wrong (right-by ∙ t)
 
-      pub run-right : (ran : Ran) (left : List ℕ) → test ≡ true
-          → RanAs (wordOutcome (walkWord (nodesIn (take (4 * nodes) table)) (groupsOf sheet)) word) ran left
-          → RanAs (runOutcome sheet table word) ran left
+      pub run-right : {number value : ℕ} {left : List ℕ} → test ≡ true
+          → Gives (wordOutcome (walkWord (nodesIn (take (4 * nodes) table)) (groupsOf sheet)) word) number value left
+          → Gives (runOutcome sheet table word) number value left
       unfolding runOutcome runOf
-      run-right ran left t ran-as = rw (run-accepted .0, right-by ∙ t, ← run-accepted .1) ran-as
+      run-right t gives = rw (run-accepted .0, right-by ∙ t, ← run-accepted .1) gives

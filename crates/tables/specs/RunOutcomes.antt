@@ -1,5 +1,4 @@
 -- Document 01, "Numbers returned": what the run of a table on a word answers, and what it leaves in the word's place.
--- Assumes nothing.
 use Prim.Native.Nat.{ℕ, _*_}
 use mathlib.Core.Path.{_≡_}
 use mathlib.Core.Bool.{Bool, true, cond}
@@ -27,9 +26,10 @@ rightTable groups table = same (take (4 * nodeCount groups) table) (tableOf grou
 
 -- "3, 7, 1, 2, 4 for a table run"; "Every refusal leaves all that was lent unchanged."
 unfoldable pub runOf : Sheet → List ℕ → List ℕ → Outcome
-runOf (faulty place) table word = record { number = 3; value = place; place = word }
+runOf (faulty place) table word = refused 3 place word
 runOf (accepted groups) table word =
-    cond (rightTable groups table) (wordOutcome (walkWord (nodesIn (take (4 * nodeCount groups) table)) groups) word) (refused 7 word)
+    cond (rightTable groups table) (wordOutcome (walkWord (nodesIn (take (4 * nodeCount groups) table)) groups) word)
+    (refused 7 0 word)
 
 -- what a run of a table on a word gives
 unfoldable pub runOutcome : List ℕ → List ℕ → List ℕ → Outcome
@@ -53,7 +53,7 @@ translated-right groups table =
 -- "The table made from the shipped sheet gives the stem of demand 2."
 pub run-stems : (sheet table word : List ℕ) → readSheet sheet ≡ accepted shipped → rightTable shipped table ≡ true
     → runOutcome sheet table word ≡ outcome word
-unfolding outcome stem
+unfolding stem
 run-stems sheet table word is right = run-reads sheet table word shipped is right
 
 pub shipped-stems : (table word : List ℕ) → rightTable shipped table ≡ true

@@ -1,4 +1,4 @@
--- What the walk of all groups hands back, for each thing that reading may give. Assumes nothing.
+-- What the walk of all groups hands back says of the reading.
 use Prim.Native.Nat.{ℕ, _≤_}
 use mathlib.Core.Path.{_≡_}
 use mathlib.Core.List.{List}
@@ -9,7 +9,5 @@ use Rattle.tables.specs.declared.runs.Walked.the-variants.{Left, Outgrow
 
 -- so many letters are left, and they stand first in the word's place; or some group's result did not fit the place
 abbrev pub WalkedAs : Reading → Walked → List ℕ → Type 0
-WalkedAs (done stem) (Left size) after = (take size after ≡ stem) × (size ≤ length after)
-WalkedAs (done stem) Outgrown after = ⊥
-WalkedAs outgrown (Left size) after = ⊥
-WalkedAs outgrown Outgrown after = Unit {0}
+WalkedAs reading (Left size) after = (done (take size after) ≡ reading) × (size ≤ length after)
+WalkedAs reading Outgrown after = outgrown ≡ reading

@@ -1,5 +1,6 @@
 // The run of a table on a word.
-ghost use Rattle.tables.specs.RunNumbers.{numberOfRan, valueOfRan, RanAs};
+ghost use Rattle.paper.specs.Words.{Gives};
+ghost use Rattle.tables.specs.RunAnswers.{numberOfRan, valueOfRan};
 ghost use Rattle.tables.specs.RunOutcomes.{runOutcome};
 ghost use mathlib.Core.Path.{_≡_};
 
@@ -8,25 +9,23 @@ mod runs;
 mod word_runs;
 
 use numbers::same_numbers;
+use places::Answer;
 use siblings::Translated;
 use siblings::translate;
 use word_runs::word_run;
 
-// What a run of a table on a word answers: the stem's length; that the word has 0 or more than 64 bytes; that a byte of it is
-// outside a to z; the place of the sheet's first faulty record; that some group's result is longer than the word's place; that
+// What a run of a table on a word answers: what the call on the word answers; the place of the sheet's first faulty record; that
 // the table is not the sheet's.
 pub enum Ran {
-    Done(usize),
-    Length,
-    Letter,
+    Word(Answer),
     Refused(usize),
-    Longer,
     Table,
 }
 
 // Runs a table on a word, after the sheet and the table are held against each other.
 pub fn run(sheet: &[u8], table: &[u16], word: &mut [u8]) -> Ran
-    ensures { λ r. ⌜ RanAs (runOutcome (now (sheet .entry)) (now (table .entry)) (now (word .entry))) r (now (word .exit)) ⌝ }
+    ensures { λ r. ⌜ Gives (runOutcome (now (sheet .entry)) (now (table .entry)) (now (word .entry)))
+        (numberOfRan r) (valueOfRan r) (now (word .exit)) ⌝ }
 {
     let mut own = [0u16; 6208];
     let found = translate(sheet, &mut own[..]);
@@ -41,7 +40,7 @@ pub fn run(sheet: &[u8], table: &[u16], word: &mut [u8]) -> Ran
             if !same_numbers(&table[..size], &own[..size]) {
                 return Ran::Table;
             }
-            word_run(sheet, &table[..size], word)
+            Ran::Word(word_run(sheet, &table[..size], word))
         }
     }
 }
@@ -51,11 +50,8 @@ pub fn ran_number(answer: Ran) -> u8
     ensures { λ r. ⌜ r ≡ numberOfRan answer ⌝ }
 {
     match answer {
-        Ran::Done(_) => 0,
-        Ran::Length => 1,
-        Ran::Letter => 2,
+        Ran::Word(word) => places::number(word),
         Ran::Refused(_) => 3,
-        Ran::Longer => 4,
         Ran::Table => 7,
     }
 }
@@ -64,11 +60,8 @@ pub fn ran_value(answer: Ran) -> usize
     ensures { λ r. ⌜ r ≡ valueOfRan answer ⌝ }
 {
     match answer {
-        Ran::Done(size) => size,
-        Ran::Length => 0,
-        Ran::Letter => 0,
+        Ran::Word(word) => places::value(word),
         Ran::Refused(place) => place,
-        Ran::Longer => 0,
         Ran::Table => 0,
     }
 }

@@ -1,4 +1,4 @@
--- A word whose letters up to a place have been made small, and one letter more. Assumes nothing.
+-- A word whose letters up to a place have been made small, and one letter more.
 use Prim.Native.Nat.{ℕ, zero, suc, _+_, _≤_, _<_}
 use mathlib.Core.Path.{_≡_, refl, sym, _∙_}
 use mathlib.Core.Bool.{true}
@@ -7,9 +7,8 @@ use native.Mathlib.Numerals.{add-one}
 use native.Mathlib.Omega.{arith}
 use lib.ListN.{length, take, drop, getD, set, length-append, length-map, length-drop, drop-of-length-le}
 use lib.Seq.{take-suc, drop-cons, set-at, getD-at, length-take-le, take-all}
-use Rattle.texts.specs.Pieces.{isLetter}
-use Rattle.texts.specs.Texts.{lowered}
-use Rattle.texts.specs.LongestRuns.{allLetters}
+use Rattle.pieces.specs.Pieces.{isLetter, lowered}
+use Rattle.pieces.specs.LongestRuns.{allLetters}
 use Rattle.paper.specs.TestLaws.{and-left, and-right}
 
 pub letter-at : (word : List ℕ) (at : ℕ) → allLetters word ≡ true → at < length word → isLetter (getD word at 0) ≡ true

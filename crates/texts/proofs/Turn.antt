@@ -1,73 +1,19 @@
--- One turn of the text run: from a place, the gap to the next word, the word, and the place behind it. Assumes nothing.
+-- One turn of a text run, by any word rule: from a place, the gap to the next word, the word, and the place behind it.
 use Prim.Native.Nat.{ℕ, _+_, _-_, _≤_, _<_}
 use mathlib.Core.Path.{_≡_, refl, sym, ap, _∙_}
 use mathlib.Core.Bool.{Bool, true, false}
 use mathlib.Core.List.{List, [], _∷_, _++_, map, append-assoc}
 use native.Mathlib.Nat.{add-zero}
 use native.Mathlib.Omega.{arith}
-use lib.ListN.{length, take, drop, length-append, length-drop, drop-of-length-le}
+use lib.ListN.{length, take, drop, length-append, drop-of-length-le}
 use lib.Seq.{take-add, drop-drop, take-at, drop-at, length-take-le, take-all}
 use Rattle.paper.specs.Groups.{Reading}
-use Rattle.texts.specs.Pieces.{isLetter, other, pieces}
-use Rattle.texts.specs.Next.{gap, nextWordAt}
+use Rattle.pieces.specs.Pieces.{isLetter, leading, other, pieces}
+use Rattle.pieces.specs.Next.{gap, nextWordAt}
+use Rattle.pieces.specs.PiecesLaws.{leading-letter, leading-other, leading-stands, pieces-letter, begins-with-word}
+use Rattle.pieces.specs.NextLaws.{pieces-gap, part-leading, Found, start-within, part-length}
 use Rattle.texts.specs.Texts.{Ran, stemmedTo, ofWord, ofPiece, _then_, ofPieces, runText}
-use Rattle.texts.specs.PiecesLaws.{leading, leading-letter, leading-other, leading-stands, pieces-letter, begins-with-word}
-use Rattle.texts.specs.LongestRuns.{allLetters, IsWord}
-use Rattle.texts.specs.NextLaws.{pieces-gap, from-next, gap-or-word, next-within}
-use Rattle.texts.proofs.Scan.{part-within, part-leading}
 use Rattle.texts.specs.TextsLaws.{then-assoc, then-nothing, ofPieces-append, long-word}
-
--- the letters that a text begins with are a word
-
-all-leading : (text : List ℕ) → allLetters (leading text) ≡ true
-unfolding leading allLetters
-all-leading [] = refl
-all-leading (byte ∷ bytes) = go (all-leading bytes) (isLetter byte) refl
-  where
-    go : allLetters (leading bytes) ≡ true → (test : Bool) → isLetter byte ≡ test → allLetters (leading (byte ∷ bytes)) ≡ true
-    go shorter true letter = rw (leading-letter byte bytes letter, letter) shorter
-    go shorter false separates = rw (leading-other byte bytes separates)
-
-pub leading-word : (text : List ℕ) → 0 < length (leading text) → IsWord (leading text)
-leading-word text some = record { some = some; all = all-leading text }
-
--- what a turn finds from a place inside a text: where the next word starts, and where its letters end
-pub record Found (text : List ℕ) (at start end : ℕ) : Type 0 where
-  pub inside : at < length text
-  pub next : start ≡ nextWordAt text at
-  pub ends : end ≡ start + length (leading (drop start text))
-
-module _ {text : List ℕ} {at start end : ℕ} (found : Found text at start end) where
-  pub start-within : start ≤ length text
-  start-within = rw (found .next) (next-within text at)
-
-  pub end-within : end ≤ length text
-  end-within = part-within text start end (found .ends) start-within
-
-  -- the place moves on
-  pub turn-on : at < end
-  unfolding nextWordAt
-  turn-on =
-      let there : drop (gap (pieces (drop at text))) (drop at text) ≡ drop start text =
-      from-next text at ∙ ap (λ (n : ℕ). drop n text) (sym (found .next))
-      in
-      let some : 0 < length (drop at text) = rw (length-drop at text) (omega arith) in
-      omega (arith, gap-or-word (drop at text) some, ap (λ (l : List ℕ). length (leading l)) there)
-
-  -- the part from its start to its end is a word, if it is not empty
-  pub part-word : start < end → IsWord (take (end - start) (drop start text))
-  part-word some =
-      rw (part-leading text start end (found .ends)) (leading-word (drop start text) (omega arith))
-
-  pub part-length : length (take (end - start) (drop start text)) ≡ end - start
-  part-length = ap length (part-leading text start end (found .ends)) ∙ omega (arith, found .ends)
-
-  -- the text with other bytes in the place of that part is as long as it was
-  pub length-after : (place : List ℕ) → length place ≡ length (take (end - start) (drop start text))
-      → length (take start text ++ (place ++ drop (end - start) (drop start text))) ≡ length text
-  length-after place long =
-      simp (length-append, length-drop)
-      (omega (arith, long, part-length, length-take-le start text start-within, end-within, found .ends))
 
 -- bytes that are not in words, with nothing counted
 abbrev pub plain : List ℕ → Ran

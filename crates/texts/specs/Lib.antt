@@ -1,15 +1,8 @@
--- Texts, as document 01 reads them. First the definitions, one subject to a file: these are what a reader must believe.
-pub mod Pieces
-pub mod Next
+-- Texts, as document 01 reads them, by any word rule. First the definitions: these are what a reader must believe.
 pub mod Texts
-pub mod Answer
--- Then what is shown of them.
-pub mod PiecesLaws
-pub mod LongestRuns
-pub mod NextLaws
+pub mod TextAnswers
+-- Then what is shown of them, and, for the shipped rules, 01's samples.
 pub mod TextsLaws
-pub mod Lowered
-pub mod StemLaws
 pub mod OutcomeLaws
-pub mod AnswerLaws
-pub mod Samples
+pub mod WordCalls
+pub mod TextSamples

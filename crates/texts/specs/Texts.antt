@@ -1,16 +1,12 @@
--- Document 01, "The text run": what becomes of a text, by any word rule, and by ours. Assumes nothing.
+-- Document 01, "The text run": what becomes of a text, by any word rule.
 use Prim.Native.Nat.{ℕ, _+_}
 use mathlib.Core.Bool.{cond}
 use mathlib.Core.List.{List, [], _∷_, _++_, map}
 use lib.Dec.{ltb}
 use lib.ListN.{length}
 use Rattle.paper.specs.Groups.{Reading, done, outgrown}
-use Rattle.paper.specs.Words.{placed, stem}
-use Rattle.texts.specs.Pieces.{capital, Piece, word, other, pieces}
-
--- a letter made small: a lies 32 after A, and so on to z
-unfoldable pub lowered : ℕ → ℕ
-lowered byte = cond (capital byte) (byte + 32) byte
+use Rattle.paper.specs.Words.{placed}
+use Rattle.pieces.specs.Pieces.{lowered, Piece, word, other, pieces}
 
 -- what becomes of a part of a text: its bytes afterwards, and the two counts, "words stemmed, words left"
 pub record Ran : Type 0 where
@@ -74,7 +70,3 @@ finished ran = record { number = 0; stemmed = ran .stemmed; left = ran .left; te
 -- a call on a text, whatever reads its words
 unfoldable pub textOutcome : (List ℕ → Reading) → List ℕ → Outcome
 textOutcome rule text = cond (ltb 65536 (length text)) (refused text) (finished (runText rule text))
-
--- a call of the text run, by the shipped rules
-unfoldable pub outcome : List ℕ → Outcome
-outcome text = textOutcome stem text

@@ -1,6 +1,6 @@
 -- What people ask of a text run, by any word rule: its length stays, every byte outside words stays where it is, words over
 -- 64 letters stay with their capitals, the two counts add up to the words, and what is done at one word does not depend on
--- the rest of the text. Assumes nothing.
+-- the rest of the text.
 use Prim.Native.Nat.{ℕ, suc, _+_, _≤_, _<_}
 use mathlib.Core.Path.{_≡_, refl, sym, ap, _∙_}
 use mathlib.Core.Bool.{Bool, true, false, cond, not, _||_}
@@ -13,22 +13,12 @@ use lib.Seq.{split-at, getD-at}
 use borrow.Author.Tests.{lt-ltb}
 use Rattle.paper.specs.Groups.{Reading, done, outgrown}
 use Rattle.paper.specs.Words.{placed}
-use Rattle.texts.specs.Pieces.{isLetter, Piece, word, other, pieces}
-use Rattle.texts.specs.Texts.{
-  lowered,
-  Ran,
-  stays,
-  answered,
-  ofWord,
-  ofPiece,
-  nothing,
-  _then_,
-  ofPieces,
-  runText,
-}
-use Rattle.texts.specs.PiecesLaws.{joined, joined-pieces, pieces-other, startsOutside, endsOutside, pieces-cut}
-use Rattle.texts.specs.LongestRuns.{IsWord, LongestRuns, pieces-longest, pieces-word}
+use Rattle.paper.specs.LengthLaws.{NeverLengthens}
 use Rattle.paper.specs.TestLaws.{or-right}
+use Rattle.pieces.specs.Pieces.{isLetter, lowered, Piece, word, other, pieces}
+use Rattle.pieces.specs.PiecesLaws.{joined, joined-pieces, pieces-other, startsOutside, endsOutside, pieces-cut}
+use Rattle.pieces.specs.LongestRuns.{IsWord, LongestRuns, pieces-longest, pieces-word}
+use Rattle.texts.specs.Texts.{Ran, stays, answered, ofWord, ofPiece, nothing, _then_, ofPieces, runText}
 
 -- Parts of a text one after the other.
 
@@ -47,10 +37,6 @@ nothing-then ran = λ i. record { text = ran .text; stemmed = zero-add (ran .ste
 pub then-nothing : (ran : Ran) → ran then nothing ≡ ran
 then-nothing ran =
     λ i. record { text = append-nil (ran .text) i; stemmed = add-zero (ran .stemmed) i; left = add-zero (ran .left) i }
-
--- a word rule that never gives more letters than it was given
-abbrev pub NeverLengthens : (List ℕ → Reading) → Type 0
-NeverLengthens rule = (letters stem : List ℕ) → rule letters ≡ done stem → length stem ≤ length letters
 
 unfoldable pub wordCount : List Piece → ℕ
 wordCount [] = 0

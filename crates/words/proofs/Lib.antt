@@ -4,4 +4,3 @@ pub mod Candidates
 pub mod InTurn
 pub mod Columns
 pub mod Turns
-pub mod Outcomes

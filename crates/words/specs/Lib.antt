@@ -1,3 +1,2 @@
--- What a call of the word stemmer answers, and the shipped rules as tables.
-pub mod Answer
+-- The shipped rules as tables.
 pub mod Tables

@@ -11,30 +11,20 @@ use index::CANDIDATE_STARTS;
 use index::CANDIDATES;
 use obeying::obey;
 use obeying::opens;
+use places::Answer;
+use places::Judged;
 use rules::CONDITIONS;
 use rules::ENDING_STARTS;
 use rules::ENDINGS;
 use rules::GATES;
 ghost use mathlib.Core.Path.{_≡_};
-ghost use mathlib.Core.List.{List};
-ghost use Prim.Native.Nat.{ℕ, _<_, _≤_};
+ghost use Prim.Native.Nat.{_<_, _≤_};
 ghost use lib.ListN.{length, take};
 ghost use Rattle.paper.specs.Groups.{opensNext, done};
-ghost use Rattle.paper.specs.Words.{stem as stemOf};
-ghost use Rattle.words.specs.Answer.{numberOf, valueOf, Gives};
+ghost use Rattle.paper.specs.Words.{stem as stemOf, outcome, Gives};
+ghost use Rattle.places.specs.WordAnswers.{numberOf, valueOf};
 ghost use Rattle.words.specs.Tables.{Column, turned};
 ghost use Rattle.words.specs.Tables.{endingLetters, endingStarts, conditionDigits, candidateNumbers, candidateStarts, gateDigits};
-
-pub enum Stemmed {
-    // 0: done, with the length of the stem.
-    Done(usize),
-    // 1: the word has 0 or more than 64 bytes.
-    WrongLength,
-    // 2: a byte of the word is outside a to z.
-    OtherByte,
-    // 4: some group's result is longer than the word's place. The shipped rules never give it.
-    Outgrown,
-}
 
 // What reading a group leaves: so many letters, the column of the last of them, and whether the next group is opened.
 struct Left {
@@ -134,50 +124,24 @@ fn read(
 }
 
 // The stem of a word, in its own place: afterwards it stands first and spaces fill the rest, or the word is as it came.
-pub fn stem(word: &mut [u8]) -> Stemmed
-    ensures { λ r. ⌜ Gives (now (word .entry)) r (now (word .exit)) ⌝ }
+pub fn stem(word: &mut [u8]) -> Answer
+    ensures { λ r. ⌜ Gives (outcome (now (word .entry))) (numberOf r) (valueOf r) (now (word .exit)) ⌝ }
 {
-    if word.len() == 0 {
-        return Stemmed::WrongLength;
-    }
-    if 64 < word.len() {
-        return Stemmed::WrongLength;
-    }
-    if letters::first_other(word) < word.len() {
-        return Stemmed::OtherByte;
-    }
-    let len = read(
-        word,
-        &GATES,
-        &CANDIDATES,
-        &CANDIDATE_STARTS,
-        &ENDINGS,
-        &ENDING_STARTS,
-        &CONDITIONS,
-    );
-    places::fill(word, len);
-    Stemmed::Done(len)
-}
-
-// Document 01's number for an answer, and what is returned besides it.
-pub fn number(answer: Stemmed) -> u8
-    ensures { λ r. ⌜ r ≡ numberOf answer ⌝ }
-{
-    match answer {
-        Stemmed::Done(_) => 0,
-        Stemmed::WrongLength => 1,
-        Stemmed::OtherByte => 2,
-        Stemmed::Outgrown => 4,
-    }
-}
-
-pub fn value(answer: Stemmed) -> usize
-    ensures { λ r. ⌜ r ≡ valueOf answer ⌝ }
-{
-    match answer {
-        Stemmed::Done(length) => length,
-        Stemmed::WrongLength => 0,
-        Stemmed::OtherByte => 0,
-        Stemmed::Outgrown => 0,
+    let judged = places::judge(&word[..]);
+    match judged {
+        Judged::Refused(answer) => answer,
+        Judged::Taken => {
+            let len = read(
+                word,
+                &GATES,
+                &CANDIDATES,
+                &CANDIDATE_STARTS,
+                &ENDINGS,
+                &ENDING_STARTS,
+                &CONDITIONS,
+            );
+            places::fill(word, len);
+            Answer::Done(len)
+        }
     }
 }

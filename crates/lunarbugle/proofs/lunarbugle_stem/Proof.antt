@@ -1,6 +1,8 @@
--- `lunarbugle_stem` meets its contract: the numbers of the outcome are small enough to be packed. Assumes nothing.
+-- `lunarbugle_stem` meets its contract: the numbers of the outcome are small enough to be packed.
 use borrow.Author.Needs.{needs}
 use native.Mathlib.Omega.{arith}
+use Rattle.paper.specs.Words.{stem}
+use Rattle.paper.specs.LengthLaws.{stem-never-lengthens}
 use Rattle.paper.specs.Demand2.{outcome-bounds}
 use Rattle.lunarbugle.specs.Packed.{packed}
 use Rattle.lunarbugle.proofs.lunarbugle_stem.Statement.{statement}
@@ -21,14 +23,14 @@ value-requires c κs = search needs
 mul-result : tie.Need-mul-result
 mul-result c =
     let gives = c .before .before .before .before .stem .ensures in
-    let bounds = outcome-bounds (c .before .before .before .before .before .before .before .args .word .now) in
-    omega (arith, c .value .ensures, gives .value, bounds .value)
+    let bounds = outcome-bounds stem stem-never-lengthens (c .before .before .before .before .before .before .before .args .word .now) in
+    omega (arith, c .value .ensures, gives .value-is, bounds .value)
 
 add-result : tie.Need-add-result
 add-result c =
     let gives = c .before .before .before .before .stem .ensures in
-    let bounds = outcome-bounds (c .before .before .before .before .before .before .before .args .word .now) in
-    omega (arith, c .value .ensures, gives .value, bounds .value, c .before .number .ensures, gives .number, bounds .number)
+    let bounds = outcome-bounds stem stem-never-lengthens (c .before .before .before .before .before .before .before .args .word .now) in
+    omega (arith, c .value .ensures, gives .value-is, bounds .value, c .before .number .ensures, gives .number-is, bounds .number)
 
 same-length : tie.Need-same-length
 same-length c = search needs
@@ -37,8 +39,7 @@ returns : tie.Need-returns
 unfolding packed
 returns c =
     let gives = c .before .before .before .before .stem .ensures in
-    let bounds = outcome-bounds (c .before .before .before .before .before .before .before .args .word .now) in
-    (omega (arith, c .value .ensures, gives .value, c .before .number .ensures, gives .number), gives .place)
+    (omega (arith, c .value .ensures, gives .value-is, c .before .number .ensures, gives .number-is), gives .place-is)
 
 pub lunarbugle-stem-spec : {M : Type 1} → statement M
 lunarbugle-stem-spec =

@@ -1,10 +1,11 @@
--- `lunarbugle_text` meets its contract: the numbers of the outcome are small enough to be packed. Assumes nothing.
+-- `lunarbugle_text` meets its contract: the numbers of the outcome are small enough to be packed.
 use Prim.Native.Nat.{ℕ, _+_, _≤_}
 use mathlib.Core.Path.{_≡_, _∙_}
 use mathlib.Core.List.{List}
 use borrow.Author.Needs.{needs}
 use native.Mathlib.Omega.{arith}
-use Rattle.texts.specs.Texts.{outcome}
+use Rattle.paper.specs.Words.{stem}
+use Rattle.texts.specs.Texts.{textOutcome}
 use Rattle.texts.specs.OutcomeLaws.{number-within, counts-within}
 use Rattle.lunarbugle.specs.Packed.{packedText}
 use Rattle.lunarbugle.proofs.lunarbugle_text.Statement.{statement}
@@ -12,9 +13,9 @@ use Rattle.lunarbugle.proofs.lunarbugle_text.Tie as tie
 
 -- the three numbers are the outcome's, and small
 record Told (text : List ℕ) (number stemmed left : ℕ) : Type 0 where
-  is-number : number ≡ outcome text .number
-  is-stemmed : stemmed ≡ outcome text .stemmed
-  is-left : left ≡ outcome text .left
+  is-number : number ≡ textOutcome stem text .number
+  is-stemmed : stemmed ≡ textOutcome stem text .stemmed
+  is-left : left ≡ textOutcome stem text .left
   small : number ≤ 5
   few : stemmed + left ≤ 65536
 
@@ -27,15 +28,15 @@ told : (c : tie.After-left)
 told c =
     let text = c .before .before .before .before .before .before .before .before .args .text .now in
     let gives = c .before .before .before .before .before .run .ensures in
-    let stemmed = c .before .stemmed .ensures ∙ gives .stemmed in
-    let left = c .left .ensures ∙ gives .left in
-    let number = c .before .before .number .ensures ∙ gives .number in
+    let stemmed = c .before .stemmed .ensures ∙ gives .stemmed-is in
+    let left = c .left .ensures ∙ gives .left-is in
+    let number = c .before .before .number .ensures ∙ gives .number-is in
     record {
       is-number = number;
       is-stemmed = stemmed;
       is-left = left;
-      small = omega (arith, number, number-within text);
-      few = omega (arith, stemmed, left, counts-within text);
+      small = omega (arith, number, number-within stem text);
+      few = omega (arith, stemmed, left, counts-within stem text);
     }
 
 run-requires : tie.Need-run-requires
@@ -72,7 +73,7 @@ returns : tie.Need-returns
 unfolding packedText
 returns c = (
   omega (arith, told c .is-number, told c .is-stemmed, told c .is-left),
-  c .before .before .before .before .before .run .ensures .bytes,
+  c .before .before .before .before .before .run .ensures .text-is,
 )
 
 pub lunarbugle-text-spec : {M : Type 1} → statement M

@@ -1,12 +1,11 @@
--- `tables::run` meets its contract: the answers, one by one. Assumes nothing.
+-- `tables::run` meets its contract: the answers, one by one.
 use Prim.Native.Nat.{_*_, _≤_}
 use mathlib.Core.Path.{_≡_, refl, sym, _∙_}
 use native.Mathlib.Omega.{arith}
 use lib.Seq.{length-take-le}
 use borrow.Author.Tests.{not-true, not-false}
 use Rattle.paper.specs.Nodes.{nodeCount}
-use Rattle.sheets.specs.Accepted.{groupsOf}
-use Rattle.sheets.specs.Accepted.{Accepted}
+use Rattle.sheets.specs.Accepted.{groupsOf, Accepted}
 use Rattle.tables.specs.RunLaws.{run-refused, never-short, run-accepted, run-missing, run-other, run-right}
 use borrow.Author.Needs.{needs}
 use Rattle.tables.proofs.run.Statement.{statement}
@@ -42,7 +41,8 @@ mul-size c = let small = accepted-of c .2 in omega arith
 
 returns : tie.Need-returns
 returns c =
-    run-missing _ _ _ _ _ (sym (c .before .before .found2 .given .1) ∙ c .before .before .before .before .before .translate .ensures .0) (c .if1 .taken)
+    let translated = c .before .before .before .before .before .translate .ensures in
+    run-missing _ _ _ _ _ (sym (c .before .before .found2 .given .1) ∙ translated .0) (c .if1 .taken)
 
 slice-aggregate-same-numbers : tie.Need-slice-aggregate-same-numbers
 slice-aggregate-same-numbers c = sym (length-take-le (4 * c .before .before .before .found2 .given .0 .0)
@@ -72,9 +72,10 @@ returns-2 c =
     (c .before .same-numbers .ensures) (not-true _ (c .if2 .taken))
 
 slice-aggregate-word-run : tie.Need-slice-aggregate-word-run
-slice-aggregate-word-run c = sym (length-take-le (4 *
-    c .before .before .before .before .before .before .before .found2 .given .0 .0)
-    (c .before .before .before .before .before .before .before .before .before .before .before .before .before .before .before .args .table .now) (c .before .before .before .before .before .if1 .left))
+slice-aggregate-word-run c =
+    let known = c .before .before .before .before .before .before .before in
+    let table = known .before .before .before .before .before .before .before .before .args .table .now in
+    sym (length-take-le (4 * known .found2 .given .0 .0) table (c .before .before .before .before .before .if1 .left))
 
 word-run-requires : tie.Need-word-run-requires
 word-run-requires c κs = accepted-of (c .before .before .before .before .before .before .before) .0
@@ -93,30 +94,15 @@ same-length c = search needs
 
 returns-5 : tie.Need-returns-5
 returns-5 c =
-    let translated = c .before .before .before .before .before .before .before .before .before .before .before .before .before .before .translate .ensures in
-    run-right _ _ _ _ _ (sym (c .before .before .before .before .before .before .before .before .before .before .before .found2 .given .1) ∙ translated .0) _
-    (translated .1) _ (c .before .before .before .before .before .before .same-numbers .ensures) _ _
+    let compared = c .before .before .before .before .before .before in
+    let known = compared .before .before .before .before .before in
+    let translated = known .before .before .before .translate .ensures in
+    run-right _ _ _ _ _ (sym (known .found2 .given .1) ∙ translated .0) _ (translated .1) _ (compared .same-numbers .ensures)
     (not-false _ (c .before .before .before .before .before .if2 .left)) (c .before .before .word-run .ensures)
 
 pub run-spec : {M : Type 1} → statement M
 run-spec =
     tie.close
-    (tie.spec
-    slice-aggregate-translate
-    translate-requires
-    enum-known-found
-    enum-told
-    enum-known-found-2
-    mul-size
-    returns
-    slice-aggregate-same-numbers
-    array-share-prefix-own
-    slice-aggregate-same-numbers-2
-    same-numbers-requires
-    returns-2
-    slice-aggregate-word-run
-    word-run-requires
-    returns-3
-    returns-4
-    same-length
-    returns-5)
+    (tie.spec slice-aggregate-translate translate-requires enum-known-found enum-told enum-known-found-2 mul-size returns
+    slice-aggregate-same-numbers array-share-prefix-own slice-aggregate-same-numbers-2 same-numbers-requires returns-2
+    slice-aggregate-word-run word-run-requires returns-3 returns-4 same-length returns-5)

@@ -1,12 +1,11 @@
 -- `texts::make_small` meets its contract. The loop's invariant: the letters before `at` have been made small.
--- Assumes nothing.
 use Prim.Native.Nat.{_-_, _≤_, _<_}
 use mathlib.Core.Path.{_≡_, refl, sym, ap, _∙_}
 use native.Mathlib.Omega.{arith}
 use mathlib.Core.Bool.{true}
 use lib.ListN.{length, getD, length-set}
-use Rattle.texts.specs.Pieces.{isLetter}
-use Rattle.texts.proofs.Bytes.{small-by-bit}
+use Rattle.pieces.specs.Pieces.{isLetter}
+use Rattle.pieces.specs.LetterBits.{small-by-bit}
 use Rattle.texts.proofs.Small.{smallTo, small-none, small-at, small-more, small-all, letter-at}
 use Rattle.texts.proofs.make_small.Statement.{statement}
 use Rattle.texts.proofs.make_small.Tie as tie

@@ -1,26 +1,15 @@
 -- `texts::run` meets its contract. The loop's invariant: what is done before `at` and the text run of what stands behind it
--- are together the text run of the whole text. Assumes nothing.
+-- are together the text run of the whole text.
 use Prim.Native.Nat.{_+_, _-_, _≤_}
 use mathlib.Core.Path.{_≡_, refl, sym, _∙_}
 use native.Mathlib.Omega.{arith}
 use lib.ListN.{length, length-take}
 use Rattle.paper.specs.Words.{stem}
 use Rattle.texts.specs.Texts.{runText}
-use Rattle.texts.specs.AnswerLaws.{gives-refused, gives-done}
-use Rattle.texts.specs.NextLaws.{next-within}
+use Rattle.texts.specs.OutcomeLaws.{gives-refused, gives-done}
 use Rattle.texts.specs.TextsLaws.{nothing-then}
-use Rattle.texts.proofs.Turn.{
-  Found,
-  end-within,
-  length-after,
-  turn-on,
-  part-word,
-  whole,
-  whole-done,
-  turn-left,
-  turn-stemmed,
-  turn-none,
-}
+use Rattle.pieces.specs.NextLaws.{Found, end-within, length-after, turn-on, part-word}
+use Rattle.texts.proofs.Turn.{whole, whole-done, turn-left, turn-stemmed, turn-none}
 use Rattle.texts.proofs.run.Statement.{statement}
 use Rattle.texts.proofs.run.Tie as tie
 
@@ -48,7 +37,7 @@ found c =
     }
 
 returns : tie.Need-returns Inv-loop μ-loop
-returns c = gives-refused (c .before .before .args .text .now) (omega arith)
+returns c = gives-refused stem (c .before .before .args .text .now) (omega arith)
 
 loop-holds : tie.Need-loop-holds Inv-loop μ-loop
 loop-holds c = (omega arith, refl, omega arith, nothing-then (runText stem (c .before .before .args .text .now)))
@@ -57,9 +46,7 @@ next-word-at-requires : tie.Need-next-word-at-requires Inv-loop μ-loop
 next-word-at-requires c κs = tt
 
 word-end-requires : tie.Need-word-end-requires Inv-loop μ-loop
-word-end-requires c κs =
-    let loop = c .before .before .before .before .loop in
-    rw (c .before .next-word-at .ensures) (next-within (loop .text) (loop .at))
+word-end-requires c κs = tt
 
 sub-if2 : tie.Need-sub-if2 Inv-loop μ-loop
 sub-if2 c = omega (arith, found c .ends)
@@ -133,7 +120,7 @@ same-length c = c .before .loop .inv .1
 returns-2 : tie.Need-returns-2 Inv-loop μ-loop
 returns-2 c =
     let loop = c .before .loop in
-    gives-done (c .before .before .before .before .args .text .now) (loop .text) (loop .stemmed) (loop .left) (omega arith)
+    gives-done stem (c .before .before .before .before .args .text .now) (omega arith)
     (sym (loop .inv .3) ∙ whole-done stem (loop .text) (loop .at) (loop .stemmed) (loop .left) (c .loop-test .left))
 
 pub run-spec : {M : Type 1} → statement M

@@ -82,7 +82,7 @@ returns c =
     let next = group-of (c .before .before .before .before .before .before .before) in
     let runs = c .before .before .before .before .before .before .if1 .taken in
     let stepped = rw (turn .inv .4) at (c .before .before .before .before .walk-group .ensures) in
-    rw (← walking-outgrown (turn .inv .5) next _ _ _ _ runs stepped (not-true _ (c .if2 .taken))) tt
+    walking-outgrown (turn .inv .5) next _ _ _ _ runs stepped (not-true _ (c .if2 .taken))
 
 loop-less : tie.Need-loop-less Inv-loop μ-loop
 loop-less c = let inside = group-of (c .before .before .before .before .before .before .before) .inside in omega arith
@@ -155,7 +155,7 @@ same-length-2 c = c .before .before .before .before .loop .inv .4
 returns-2 : tie.Need-returns-2 Inv-loop μ-loop
 returns-2 c =
     let turn = c .before .before .before .before .loop in
-    rw (← walking-end (turn .inv .5) (sym (c .before .before .draw .ensures) ∙ c .enum-told .given .1)) (refl, turn .inv .3)
+    (walking-end (turn .inv .5) (sym (c .before .before .draw .ensures) ∙ c .enum-told .given .1), turn .inv .3)
 
 enum-told-2 : tie.Need-enum-told-2 Inv-loop μ-loop
 enum-told-2 c = search needs

@@ -1,53 +1,24 @@
--- `tables::word_runs::word_run` meets its contract: the answers, one by one. Assumes nothing.
-use mathlib.Core.Path.{refl, sym}
+-- `tables::word_runs::word_run` meets its contract: a word that is not taken is as it came; of one that is, what the walk left
+-- stands first in its place, or the word stands there again.
+use mathlib.Core.Path.{_≡_, refl, sym, ap, _∙_}
 use native.Mathlib.Omega.{arith}
-use lib.ListN.{length}
 use lib.Seq.{length-take-le}
-use Rattle.siblings.specs.Children.{nodesIn}
-use Rattle.walks.specs.Walk.{walkWord}
-use Rattle.sheets.specs.Accepted.{groupsOf}
-use Rattle.tables.specs.RanLaws.{
-  Taken,
-  ran-empty,
-  ran-long,
-  ran-letter,
-  ran-longer,
-  ran-done,
-  Stem,
-  left-of,
-  outgrown-of,
-  placed-letters,
-  word-back,
-}
 use borrow.Author.Needs.{needs}
+use Rattle.paper.specs.Words.{taken, judged}
+use Rattle.paper.specs.WordsLaws.{taken-short, gives-refused, gives-outgrown, gives-done}
+use Rattle.places.specs.Put.{put-back}
+use Rattle.places.specs.WordAnswers.{judgementOf}
 use Rattle.tables.proofs.word_runs.word_run.Statement.{statement}
 use Rattle.tables.proofs.word_runs.word_run.Tie as tie
 
-returns : tie.Need-returns
-returns c = ran-empty _ _ (c .if1 .taken)
+judge-requires : tie.Need-judge-requires
+judge-requires c κs = search needs
 
-returns-2 : tie.Need-returns-2
-returns-2 c = ran-long _ _ (c .if2 .taken)
+enum-known-judged : tie.Need-enum-known-judged
+enum-known-judged c = search needs
 
-first-other-requires : tie.Need-first-other-requires
-first-other-requires c κs = search needs
-
-same-length : tie.Need-same-length
-same-length c = search needs
-
-returns-3 : tie.Need-returns-3
-returns-3 c =
-    ran-letter _ _ (c .before .before .before .before .if1 .left) (c .before .before .before .if2 .left) _
-    (c .before .first-other .ensures) (c .if3 .taken)
-
--- the word is read
-taken-of : (c : tie.Else3) → Taken (c .before .before .before .before .before .before .before .before .args .word .now)
-taken-of c =
-    record {
-      some = c .before .before .before .before .if1 .left;
-      short = c .before .before .before .if2 .left;
-      letters = rw (c .before .first-other .ensures) at (c .if3 .left);
-    }
+enum-told : tie.Need-enum-told
+enum-told c = search needs
 
 slice-aggregate-put : tie.Need-slice-aggregate-put
 slice-aggregate-put c = search needs
@@ -61,79 +32,63 @@ walk-groups-requires c κs = search needs
 enum-known-walked : tie.Need-enum-known-walked
 enum-known-walked c = search needs
 
--- the letters that the walk left
-stem-of : (c : tie.After-known-told)
-    → (let walk = c .before .before .before .before .before in
-    let a = walk .before .before .before .before .before .before .before .before .before .before .before .before .before .before .args in
-    Stem (walkWord (nodesIn (a .table .now)) (groupsOf (a .sheet .now)) (a .word .now)) (c .before .walked .given .0 .0)
-    (walk .walk-groups .last .1 .1 .0))
-stem-of c = left-of _ _ _ _ (c .before .before .before .before .before .walk-groups .ensures) (c .before .walked .given .1)
-
 fill-requires : tie.Need-fill-requires
 fill-requires c κs = search needs
 
-enum-told : tie.Need-enum-told
-enum-told c = search needs
+enum-told-2 : tie.Need-enum-told-2
+enum-told-2 c = search needs
+
+-- the word is taken
+word-taken : (c : tie.After-enum-told) → taken ≡ judged (c .before .before .before .before .before .before .before .args .word .now)
+word-taken c = ap judgementOf (sym (c .enum-told .given .1)) ∙ c .before .before .judge .ensures
 
 array-share-prefix-saved : tie.Need-array-share-prefix-saved
-array-share-prefix-saved c = search needs
+array-share-prefix-saved c =
+    let saved = c .before .before .before .before .before .before .before .before in
+    omega (arith, taken-short _ (word-taken (saved .before .before .before)), saved .put .kept .0)
 
 slice-aggregate-put-2 : tie.Need-slice-aggregate-put-2
-slice-aggregate-put-2 c =
-    let after = c .before .before .before .before .before .before .before .before .before in
-    let word = after .before .before .before .before .before .before .before .before .before .before .before .args .word .now in
-    let short = after .before .before .before .before .before .before .if2 .left in
-    let saved = after .put in
-    sym (length-take-le (length word) (saved .last .0) (omega (arith, saved .kept .0)))
+slice-aggregate-put-2 c = sym (length-take-le _ _ (array-share-prefix-saved (c .before)))
 
 put-requires-2 : tie.Need-put-requires-2
 put-requires-2 c κs = search needs
 
+same-length : tie.Need-same-length
+same-length c = search needs
+
+returns : tie.Need-returns
+returns c =
+    let judge = c .before .before .before .judge in
+    gives-refused _ _ (ap judgementOf (sym (c .before .judged .given .1)) ∙ judge .ensures)
+
 same-length-2 : tie.Need-same-length-2
 same-length-2 c = search needs
 
-returns-4 : tie.Need-returns-4
-returns-4 c =
-    let left = stem-of (c .before .before .before .before) in
-    let walk = c .before .before .before .before .before .before .before .before .before in
-    let kept = walk .walk-groups .kept .1 .1 .0 in
-    let filled = placed-letters _ (left .stem) _ _ _ (left .letters) (left .within) kept (c .before .before .fill .ensures) in
-    let taken = taken-of (walk .before .before .before .before .before .before) in
-    ran-done _ _ taken (left .stem) _ _ (left .is-done) (filled .1) (filled .0)
+returns-2 : tie.Need-returns-2
+returns-2 c =
+    let known = c .before .before .before .before .before in
+    let walk = known .before .before .before .before in
+    let is-taken = word-taken (walk .before .before .before .before .before .before) in
+    let left = rw (known .walked .given .1) at (walk .walk-groups .ensures) in
+    gives-done _ _ is-taken _ _ _ (sym (left .0)) (left .1) (walk .walk-groups .kept .1 .1 .0) (c .before .before .fill .ensures)
 
 same-length-3 : tie.Need-same-length-3
 same-length-3 c = search needs
 
-returns-5 : tie.Need-returns-5
-returns-5 c =
-    let walk = c .before .before .before .before .before .before .before .before .before in
-    let tested = walk .before .before .before .before .before .before in
-    let word = tested .before .before .before .before .before .before .before .before .args .word .now in
-    let walked = walk .walk-groups in
-    let out = outgrown-of _ _ _ (walked .ensures) (c .before .before .before .before .before .enum-told .given .1) in
-    let saved = c .before .before .before .before .before .before .before .before .before .before .before .before .put .ensures in
-    let back = word-back word _ _ _ _ _ refl (omega arith) saved (walked .kept .1 .1 .0) (c .before .before .put2 .ensures) in
-    ran-longer _ _ (taken-of tested) _ out back
+returns-3 : tie.Need-returns-3
+returns-3 c =
+    let told = c .before .before .before .before .before in
+    let walk = told .before .before .before .before in
+    let saved = walk .before .before .before in
+    let is-taken = word-taken (saved .before .before .before) in
+    let out = rw (told .enum-told2 .given .1) at (walk .walk-groups .ensures) in
+    let kept = walk .walk-groups .kept .1 .1 .0 in
+    gives-outgrown _ _ is-taken (sym out)
+    (put-back _ _ _ _ _ _ refl (taken-short _ is-taken) (saved .put .ensures) kept (c .before .before .put2 .ensures))
 
 pub word-run-spec : {M : Type 1} → statement M
 word-run-spec =
     tie.close
-    (tie.spec
-    returns
-    returns-2
-    first-other-requires
-    same-length
-    returns-3
-    slice-aggregate-put
-    put-requires
-    walk-groups-requires
-    enum-known-walked
-    fill-requires
-    enum-told
-    array-share-prefix-saved
-    slice-aggregate-put-2
-    put-requires-2
-    same-length-2
-    returns-4
-    same-length-3
-    returns-5)
+    (tie.spec judge-requires enum-known-judged enum-told slice-aggregate-put put-requires walk-groups-requires enum-known-walked
+    fill-requires enum-told-2 array-share-prefix-saved slice-aggregate-put-2 put-requires-2 same-length returns same-length-2
+    returns-2 same-length-3 returns-3)
