@@ -1,2 +1,0 @@
--- Nodes of four numbers, and a table's numbers one after the other.
-pub mod InARow
