@@ -1,8 +1,9 @@
 -- `words::choosing::ends` meets its contract. Assumes nothing.
 use borrow.Author.Needs.{needs}
 use native.Mathlib.Omega.{arith}
-use mathlib.Core.Path.{ap}
+use mathlib.Core.Path.{ap, _∙_}
 use lib.ListN.{length}
+use Rattle.paper.specs.Groups.{endsWith}
 use Rattle.words.proofs.Columns.{ending-row}
 use Rattle.words.proofs.choosing.ends.Statement.{statement}
 use Rattle.words.proofs.choosing.ends.Tie as tie
@@ -46,9 +47,11 @@ ends-with-requires c κs = search needs
 
 returns : tie.Need-returns
 returns c =
-    let s = c .before .before .before .before .before .before .before .before .before in
+    let read = c .before .before in
+    let s = read .before .before .before .before .before .before .before in
     let row = ending-row _ _ (s .pre .0) (s .pre .1 .1) in
-    cc
+    c .ends-with .ensures
+    ∙ ap (endsWith (s .args .word .now)) (rw (read .wide2 .ensures, read .before .before .wide .ensures, s .pre .1 .0) (row .part))
 
 pub ends-spec : {M : Type 1} → statement M
 ends-spec =
