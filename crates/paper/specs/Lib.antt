@@ -5,8 +5,10 @@ pub mod Conditions
 pub mod Groups
 pub mod Shipped
 pub mod Words
+pub mod Nodes
 pub mod Samples
 pub mod TestLaws
+pub mod ListLaws
 pub mod LettersLaws
 pub mod GroupsLaws
 pub mod ReadingLaws
@@ -14,5 +16,8 @@ pub mod LongerFirst
 pub mod StepLaws
 pub mod LengthLaws
 pub mod WordsLaws
+pub mod MemberLaws
+pub mod LookBack
+pub mod SharedTails
 pub mod Demand2
 pub mod Settled

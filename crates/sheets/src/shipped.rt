@@ -1,7 +1,7 @@
 // The shipped rules as a sheet: a record to a line, in 01's order.
 ghost use mathlib.Core.Path.{_≡_};
 ghost use Rattle.paper.specs.Shipped.{shipped};
-ghost use Rattle.sheets.specs.Bytes.{sheetOf};
+ghost use Rattle.sheets.specs.SheetBytes.{sheetOf};
 
 pub const SHIPPED: [u8; 861] = *b"\x02\x00\x01\x00\x00\x00\
     \x0a\x00\x02\x00\x00\x00\x00\x04ssesss\

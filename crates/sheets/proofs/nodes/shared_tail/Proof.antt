@@ -1,14 +1,14 @@
 -- `sheets::nodes::shared_tail` meets its contract. The loop's invariant: the last `k` letters are equal. The measure is what
--- is left of the first ending. Assumes nothing.
+-- is left of the first ending.
 use Prim.Native.Nat.{ℕ, suc, _+_, _-_, _≤_, _<_}
 use mathlib.Core.Path.{_≡_, sym, ap, _∙_}
 use mathlib.Core.List.{List, _∷_}
 use native.Mathlib.Omega.{arith}
 use lib.ListN.{length, getD, drop}
 use lib.Seq.{drop-cons, drop-length}
-use Rattle.sheets.specs.Nodes.{tails}
-use Rattle.sheets.specs.LookBack.{shared}
-use Rattle.sheets.specs.SharedTails.{Equal, Stop, shared-is}
+use Rattle.paper.specs.Nodes.{tails}
+use Rattle.paper.specs.LookBack.{shared}
+use Rattle.paper.specs.SharedTails.{Equal, Stop, shared-is}
 use Rattle.sheets.proofs.nodes.shared_tail.Statement.{statement}
 use Rattle.sheets.proofs.nodes.shared_tail.Tie as tie
 

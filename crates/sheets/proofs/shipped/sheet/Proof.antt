@@ -1,8 +1,9 @@
 -- `sheets::shipped::sheet` meets its contract: the constant is what the bytes of the shipped rules compute to.
--- Assumes nothing.
 use mathlib.Core.Path.{refl}
 use Rattle.paper.specs.Shipped.{shipped}
-use Rattle.sheets.specs.Bytes.{two, recordOf, gateBody, ruleBody, rulesBytes, groupsBytes, sheetOf}
+use Rattle.records.specs.Framing.{two, recordOf}
+use Rattle.records.specs.RecordBytes.{gateBody, ruleBody}
+use Rattle.sheets.specs.SheetBytes.{rulesBytes, groupsBytes, sheetOf}
 use Rattle.sheets.proofs.shipped.sheet.Statement.{statement}
 use Rattle.sheets.proofs.shipped.sheet.Tie as tie
 
