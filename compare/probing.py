@@ -15,7 +15,7 @@ from pathlib import Path
 import second
 
 HERE = Path(__file__).resolve().parent
-EMULATE = HERE / "emulate"
+EMULATE = HERE.parent / "tools/emulate"
 PROBE = [EMULATE, HERE.parent / "target/bin/probe"]
 
 WORD, TEXT, NEXT, CHECK, TRANSLATE, RUN = range(1, 7)

@@ -8,7 +8,7 @@ use lib.Dec.{eqb}
 use lib.ListN.{length, take, drop, getD, length-take, length-drop, length-append, take-append-drop}
 use lib.Seq.{ext-getD, getD-drop}
 use borrow.Author.Tests.{eq-eqb, eqb-true}
-use Rattle.paper.specs.TestLaws.{and-parts}
+use Rattle.paper.specs.TestLaws.{and-parts, test-ext}
 use Rattle.paper.specs.Groups.{same, endsWith, before}
 
 -- ══ Two lists of letters are the same ══
@@ -38,6 +38,12 @@ differ-same xs ys no-path = go (same xs ys) refl
     go : (b : Bool) → same xs ys ≡ b → same xs ys ≡ false
     go true e = absurd (no-path (same-equal xs ys e))
     go false e = e
+
+pub same-sym : (a b : List ℕ) → same a b ≡ same b a
+same-sym a b = test-ext _ _ (λ e. equal-same (sym (same-equal a b e))) (λ e. equal-same (sym (same-equal b a e)))
+
+pub same-long : (one other : List ℕ) → (length one ≡ length other → ⊥) → same one other ≡ false
+same-long one other h = differ-same one other (λ e. h (ap length e))
 
 -- ══ A word and its ending ══
 

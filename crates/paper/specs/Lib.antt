@@ -5,6 +5,7 @@ pub mod Conditions
 pub mod Groups
 pub mod Shipped
 pub mod Words
+pub mod Numbered
 pub mod Nodes
 pub mod Samples
 pub mod TestLaws
@@ -13,11 +14,14 @@ pub mod LettersLaws
 pub mod GroupsLaws
 pub mod ReadingLaws
 pub mod LongerFirst
-pub mod StepLaws
-pub mod LengthLaws
-pub mod WordsLaws
+pub mod NumberedLaws
+pub mod ChosenLaws
 pub mod MemberLaws
 pub mod LookBack
 pub mod SharedTails
+pub mod DistinctLaws
+pub mod StepLaws
+pub mod LengthLaws
+pub mod WordsLaws
 pub mod Demand2
 pub mod Settled

@@ -22,9 +22,9 @@ pub fn answered_translation() -> bool {
 }
 
 fn answer_translation(sheet: &[u8], table: &mut [u16]) {
-    let translated = tables::translate(sheet, table);
-    output::byte(tables::translated_number(translated));
-    output::number(tables::translated_value(translated));
+    let translated = siblings::translate(sheet, table);
+    output::byte(siblings::translated_number(translated));
+    output::number(siblings::translated_value(translated));
     output::table(table);
 }
 

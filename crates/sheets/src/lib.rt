@@ -1,11 +1,10 @@
-// Rule sheets: the check of a whole sheet, and the shipped rules as a sheet.
+// Rule sheets: the check of a whole sheet.
 ghost use mathlib.Core.Path.{_≡_};
 ghost use mathlib.Core.Bool.{_&&_, _||_};
 ghost use lib.Dec.{eqb, leb};
 ghost use Rattle.sheets.specs.CheckAnswers.{numberOf, valueOf, checked};
 
 mod nodes;
-pub mod shipped;
 
 use nodes::longest_shared;
 use records::Record;

@@ -7,10 +7,10 @@ use mathlib.Core.List.{List}
 use Rattle.paper.specs.Groups.{Group}
 use Rattle.paper.specs.Shipped.{shipped}
 use Rattle.paper.specs.Words.{readWord, stem, wordOutcome}
-use Rattle.tables.specs.Layout.{tableOf}
-use Rattle.tables.specs.Walk.{walkWord}
-use Rattle.tables.specs.FaithfulWalks.{faithful-walks-words}
-use Rattle.tables.specs.TranslationFaithful.{translation-faithful}
+use Rattle.siblings.specs.Layout.{tableOf}
+use Rattle.walks.specs.Walk.{walkWord}
+use Rattle.walks.specs.FaithfulWalks.{faithful-walks-words}
+use Rattle.siblings.specs.TranslationFaithful.{translation-faithful}
 
 -- the same word, or that some group's result was longer than the word's place
 pub demand-3 : (groups : List Group) (word : List ℕ) → walkWord (tableOf groups) groups word ≡ readWord groups word

@@ -10,12 +10,12 @@ use Rattle.places.specs.Put.{putAt, put-fits}
 use borrow.Author.Tests.{eq-eqb, ne-eqb, lt-ltb, le-ltb}
 use Rattle.paper.specs.Groups.{Reading, done, outgrown}
 use Rattle.paper.specs.Words.{wrongLength, firstOther, placed, readingOutcome, wordOutcome}
-use Rattle.sheets.specs.Apart.{apart}
+use Rattle.paper.specs.TestLaws.{apart}
 use Rattle.tables.specs.declared.Ran.the-variants.{Done, Length, Letter, Longer}
 use Rattle.tables.specs.declared.runs.Walked.{Walked}
 use Rattle.tables.specs.declared.runs.Walked.the-variants.{Left, Outgrown}
 use Rattle.tables.specs.WalkAnswers.{WalkedAs}
-use Rattle.tables.specs.RanAnswers.{RanAs}
+use Rattle.tables.specs.RunNumbers.{RanAs}
 
 -- a word that is read: of the right length, and of letters only
 pub record Taken (word : List ℕ) : Type 0 where

@@ -10,21 +10,23 @@ use lib.Seq.{take-at, take-all}
 use borrow.Author.Tests.{ltb-true}
 use Rattle.paper.specs.Groups.{same}
 use Rattle.paper.specs.Words.{wordOutcome}
-use Rattle.sheets.specs.Apart.{apart}
+use Rattle.paper.specs.TestLaws.{apart}
 use Rattle.sheets.specs.Sheets.{Sheet, refused, accepted, readSheet}
-use Rattle.sheets.specs.Nodes.{nodeCount}
-use Rattle.tables.specs.Layout.{tableOf}
-use Rattle.tables.specs.Walk.{walkWord}
-use Rattle.tables.specs.Answers.{laidOut, translationOf, translation, groupsIn, groupsOf}
+use Rattle.paper.specs.Nodes.{nodeCount}
+use Rattle.siblings.specs.Layout.{tableOf}
+use Rattle.walks.specs.Walk.{walkWord}
+use Rattle.siblings.specs.Translations.{laidOut, translationOf, translation}
+use Rattle.sheets.specs.Accepted.{groupsIn, groupsOf}
 use Rattle.paper.specs.TestLaws.{by-test}
-use Rattle.tables.specs.CountLaws.{table-length}
-use Rattle.tables.specs.GoingLaws.{Accepted, small-table}
-use Rattle.tables.specs.RunAnswers.{rightTable, runOf, runOutcome}
-use Rattle.tables.specs.RanAnswers.{RanAs}
-use Rattle.tables.specs.RunSteps.{same-long}
+use Rattle.siblings.specs.CountLaws.{table-length}
+use Rattle.siblings.specs.GoingLaws.{small-table}
+use Rattle.sheets.specs.Accepted.{Accepted}
+use Rattle.tables.specs.RunOutcomes.{rightTable, runOf, runOutcome}
+use Rattle.tables.specs.RunNumbers.{RanAs}
+use Rattle.paper.specs.GroupsLaws.{same-long}
 use Rattle.tables.specs.declared.Ran.{Ran}
 use Rattle.tables.specs.declared.Ran.the-variants.{Refused as RanRefused, Table}
-use Rattle.tables.specs.declared.Translated.the-variants.{Nodes, Refused, Short}
+use Rattle.siblings.specs.declared.Translated.the-variants.{Nodes, Refused, Short}
 
 -- What the translation's answer says of the sheet
 

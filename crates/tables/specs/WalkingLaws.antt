@@ -1,4 +1,4 @@
--- Walking the groups of a sheet one after another, record by record. Assumes nothing.
+-- Walking the groups of a sheet one after another, record by record.
 use Prim.Native.Nat.{ℕ, suc, _+_}
 use mathlib.Core.Path.{_≡_, sym, ap, subst, _∙_}
 use mathlib.Core.Bool.{Bool, true, false, cond, _||_}
@@ -9,15 +9,15 @@ use lib.Dec.{eqb, leb}
 use lib.ListN.{length, take, drop}
 use lib.Seq.{take-length}
 use Rattle.paper.specs.Groups.{Rule, Gate, always, if-opened, Group, Result, done, outgrown, runs}
-use Rattle.sheets.specs.Answers.{recordIn}
-use Rattle.sheets.specs.declared.records.Record.the-variants.{End as EndRecord}
-use Rattle.tables.specs.Walk.{walkGroup, walk, walkWord}
+use Rattle.records.specs.RecordAnswers.{recordAt}
+use Rattle.records.specs.declared.Record.the-variants.{End as EndRecord}
+use Rattle.sheets.specs.Sheets.{restAt}
+use Rattle.walks.specs.Walk.{walkGroup, walk, walkWord}
 use Rattle.paper.specs.TestLaws.{by-test}
-use Rattle.tables.specs.Answers.{groupsOf}
-use Rattle.tables.specs.GoingLaws.{Accepted}
-use Rattle.tables.specs.SheetPlaces.{Holding, holding-start, GroupNext, RuleNext, end-next}
-use Rattle.tables.specs.TryLaws.{rulesOf, groupsAfter, restAt, Readable}
-use Rattle.tables.specs.StepLaws.{Stepped}
+use Rattle.sheets.specs.Accepted.{groupsOf, Accepted}
+use Rattle.sheets.specs.SheetPlaces.{Holding, holding-start, GroupNext, RuleNext, end-next}
+use Rattle.tables.specs.TryLaws.{rulesOf, groupsAfter, Readable}
+use Rattle.tables.specs.GroupStepLaws.{Stepped}
 
 -- the rest of the sheet decides what the walk leaves
 pub record Walking (table sheet first : List ℕ) (at next rules : ℕ) (opened : Bool) (word : List ℕ) : Type 0 where
@@ -63,8 +63,8 @@ module _ (table : List ℕ) (place root number : ℕ) (list : List Group) (group
 
 module _ {table sheet first : List ℕ} {at next rules : ℕ} {opened : Bool} {word : List ℕ}
     (state : Walking table sheet first at next rules opened word) where
-  module _ {number : ℕ} (found : GroupNext (state .holds) number) where
-    pub walking-readable : Readable sheet (at + 6) (next + 1) rules
+  module _ {number after-group : ℕ} (found : GroupNext (state .holds) number after-group) where
+    pub walking-readable : Readable sheet after-group (next + 1) rules
     walking-readable = readable (found .holds) .0
 
     number-here : rules + 1 + length (state .list) ≡ rules + 1
@@ -76,7 +76,7 @@ module _ {table sheet first : List ℕ} {at next rules : ℕ} {opened : Bool} {w
     gated : (test : Bool) → (eqb number 0 || opened) ≡ test → runs (found .gate-then) opened ≡ test
     gated test t = ap (λ (one : Gate). runs one opened) (found .gate-is) ∙ runs-by number opened ∙ t
 
-    rules-here : rulesOf (restAt sheet (at + 6) (next + 1) rules) ≡ found .rules-then
+    rules-here : rulesOf (restAt sheet after-group (next + 1) rules) ≡ found .rules-then
     rules-here = readable (found .holds) .1
 
     abbrev own : Group
@@ -86,7 +86,7 @@ module _ {table sheet first : List ℕ} {at next rules : ℕ} {opened : Bool} {w
         → walk table (length first) next (rules + 1) (state .more) opened word
         ≡ walk table (length first) (suc next) (rules + 1 + length (found .rules-then))
         (found .groups-then) opened-then word-then
-        → Walking table sheet first (at + 6) (next + 1) rules opened-then word-then
+        → Walking table sheet first after-group (next + 1) rules opened-then word-then
     go-on word-then opened-then e =
         record {
           list = found .rules-then;
@@ -96,19 +96,19 @@ module _ {table sheet first : List ℕ} {at next rules : ℕ} {opened : Bool} {w
               (found .groups-then) opened-then word-then) (add-one next) ∙ sym e ∙ from-here;
         }
 
-    pub walking-skip : (eqb number 0 || opened) ≡ false → Walking table sheet first (at + 6) (next + 1) rules false word
+    pub walking-skip : (eqb number 0 || opened) ≡ false → Walking table sheet first after-group (next + 1) rules false word
     walking-skip t =
         go-on word false (walk-skip table (length first) next (rules + 1) (state .more) own
         (found .groups-then) opened word (found .group-first) (gated false t))
 
     module _ (after : List ℕ) (size : ℕ) (opened-then fits : Bool) (t : (eqb number 0 || opened) ≡ true)
-        (stepped : Stepped (walkGroup table next (rules + 1) word (rulesOf (restAt sheet (at + 6) (next + 1) rules)))
+        (stepped : Stepped (walkGroup table next (rules + 1) word (rulesOf (restAt sheet after-group (next + 1) rules)))
         (length first) after size opened-then fits) where
       step-own : Stepped (walkGroup table next (rules + 1) word (found .rules-then)) (length first) after size opened-then fits
       step-own = subst (λ (list : List Rule). Stepped (walkGroup table next (rules + 1) word list)
           (length first) after size opened-then fits) rules-here stepped
 
-      pub walking-step : fits ≡ true → Walking table sheet first (at + 6) (next + 1) rules opened-then (take size after)
+      pub walking-step : fits ≡ true → Walking table sheet first after-group (next + 1) rules opened-then (take size after)
       walking-step f =
           let left = step-own .letters f in
           let run = walk-run table (length first) next (rules + 1) (state .more) own (found .groups-then) opened word
@@ -121,13 +121,14 @@ module _ {table sheet first : List ℕ} {at next rules : ℕ} {opened : Bool} {w
           (found .group-first) (gated true t) (sym (step-own .fits-is) ∙ f))
           ∙ from-here
 
-  pub walking-rule : {s1 s2 : ℕ} → RuleNext (state .holds) s1 s2 → Walking table sheet first (at + (8 + s1 + s2)) next (rules + 1) opened word
+  pub walking-rule : {c a o start middle after : ℕ} → RuleNext (state .holds) c a o start middle after
+      → Walking table sheet first after next (rules + 1) opened word
   walking-rule found =
       let shorter = ap length (found .rule-first) in
       let same-number : rules + 1 + 1 + length (found .rules-then) ≡ rules + 1 + length (state .list) = omega (arith, shorter) in
       record { list = found .rules-then; more = state .more; holds = found .holds; decides = rw same-number (state .decides) }
 
-  pub walking-end : recordIn (drop at sheet) ≡ EndRecord → done word ≡ walkWord table (groupsOf sheet) first
+  pub walking-end : recordAt sheet at ≡ EndRecord → done word ≡ walkWord table (groupsOf sheet) first
   unfolding walk
   walking-end here =
       let over = end-next (state .holds) here in

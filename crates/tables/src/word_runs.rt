@@ -1,9 +1,9 @@
 // A run on a word: the tests of the word, the walk, and what is left in the word's place.
 ghost use Rattle.paper.specs.Words.{wordOutcome};
-ghost use Rattle.tables.specs.Walk.{walkWord};
-ghost use Rattle.tables.specs.Answers.{groupsOf};
-ghost use Rattle.tables.specs.GoingLaws.{Accepted};
-ghost use Rattle.tables.specs.RanAnswers.{RanAs};
+ghost use Rattle.walks.specs.Walk.{walkWord};
+ghost use Rattle.sheets.specs.Accepted.{groupsOf};
+ghost use Rattle.sheets.specs.Accepted.{Accepted};
+ghost use Rattle.tables.specs.RunNumbers.{RanAs};
 use crate::Ran;
 use crate::runs::Walked;
 use crate::runs::walk_groups;

@@ -4,9 +4,9 @@ use mathlib.Core.Path.{_≡_, refl, sym, _∙_}
 use native.Mathlib.Omega.{arith}
 use lib.Seq.{length-take-le}
 use borrow.Author.Tests.{not-true, not-false}
-use Rattle.sheets.specs.Nodes.{nodeCount}
-use Rattle.tables.specs.Answers.{groupsOf}
-use Rattle.tables.specs.GoingLaws.{Accepted}
+use Rattle.paper.specs.Nodes.{nodeCount}
+use Rattle.sheets.specs.Accepted.{groupsOf}
+use Rattle.sheets.specs.Accepted.{Accepted}
 use Rattle.tables.specs.RunLaws.{run-refused, never-short, run-accepted, run-missing, run-other, run-right}
 use borrow.Author.Needs.{needs}
 use Rattle.tables.proofs.run.Statement.{statement}

@@ -3,8 +3,8 @@ use mathlib.Core.Path.{refl, sym}
 use native.Mathlib.Omega.{arith}
 use lib.ListN.{length}
 use lib.Seq.{length-take-le}
-use Rattle.tables.specs.Walk.{walkWord}
-use Rattle.tables.specs.Answers.{groupsOf}
+use Rattle.walks.specs.Walk.{walkWord}
+use Rattle.sheets.specs.Accepted.{groupsOf}
 use Rattle.tables.specs.RanLaws.{
   Taken,
   ran-empty,

@@ -1,0 +1,2 @@
+-- Two lists of numbers compared.
+pub mod SameNumbers

@@ -1,0 +1,1 @@
+// Walking a table, as definitions and laws: there is no code here.
