@@ -127,7 +127,8 @@ fresh (x ∷ e) longer seen more closed none =
         ≡ suc (length e) - shared (x ∷ e) seen + distinct (tails (x ∷ e) ++ (longer ++ seen)) more
     by true is further =
         let none-new = known-none (tails (x ∷ e)) (longer ++ seen) more (among is) in
-        let alike = distinct-alike (tails (x ∷ e) ++ (longer ++ seen)) (longer ++ seen) (absorbed (tails (x ∷ e)) (longer ++ seen) (among is)) more in
+        let all = longer ++ seen in
+        let alike = distinct-alike (tails (x ∷ e) ++ all) all (absorbed (tails (x ∷ e)) all (among is)) more in
         rw is (omega arith)
     by false is further =
         let new-one = new (longer ++ seen) (x ∷ e) (tails e ++ more) (here ∙ is) in

@@ -117,9 +117,11 @@ module _ (p : Passed) (result : Slot 1) where
           → ent 𝓤 (⋆ 𝓤 H A (token κ q ∷ ‵ (result .row (κ, tt) .own r (v ∷ [])) ∷ [])) (Known A .post (called written) v)
       leaves W r v is =
           qed W (token κ q ∷ ‵ (result .row (κ, tt) .own r (v ∷ [])) ∷ []) ∵ updating ! $ now ! $
-          show ! (λ (given : Res (Signed .signature) (κ, tt)). sep 𝓤 (Back 𝓤 H A (Signed .signature) (called written .0) v given) (ensured 𝓤 H A Signed clauses
-          (κ, tt) a tt given)) r $ join ! $ frame ! $
-          show ! (λ (ws : Lasts Signed (κ, tt) a). sep 𝓤 (sem 𝓤 H A (lasts Signed (κ, tt) a ws)) (fact 𝓤 (φ (κ, tt) a r))) (p .last (κ, tt) a) $
+          show ! (λ (given : Res (Signed .signature) (κ, tt)).
+          sep 𝓤 (Back 𝓤 H A (Signed .signature) (called written .0) v given) (ensured 𝓤 H A Signed clauses (κ, tt) a tt given)) r $
+          join ! $ frame ! $
+          show ! (λ (ws : Lasts Signed (κ, tt) a). sep 𝓤 (sem 𝓤 H A (lasts Signed (κ, tt) a ws)) (fact 𝓤 (φ (κ, tt) a r)))
+          (p .last (κ, tt) a) $
           says ! is $ use0 W (‵ (lasts Signed (κ, tt) a (p .last (κ, tt) a))) (rw (p .silent (κ, tt) a) (had 𝓤 H A (p .params))) $ done !
 
       -- a call: the arguments are at the head of the context, and after it what is returned, of which the fact is known
@@ -131,7 +133,8 @@ module _ (p : Passed) (result : Slot 1) where
             → Seq K W (‵ (result .row (κ, tt) .own r (v ∷ [])) ∷ token κ q ∷ Γ) (lands C Λ E d v rest after))
             → Seq K W (token κ q ∷ ‵ (owns (typesAt (p .params) (κ, tt)) a vss) ∷ Γ) (runs C Λ E (seq (call f xs d) rest) after)
         calls t fm known read k =
-            join t $ use1 W (raw (Known A .pre (called vss))) (qed W (raw (onEntry 𝓤 H A (Signed .signature) (κ, tt) (q, tt) a vss) ∷ []) ∵ frame ! $ done !) $
+            join t $ use1 W (raw (Known A .pre (called vss)))
+            (qed W (raw (onEntry 𝓤 H A (Signed .signature) (κ, tt) (q, tt) a vss) ∷ []) ∵ frame ! $ done !) $
             calls-at t fm (Known A) known (called vss) read (λ v.
             use1 W (later (some (λ (r : Res (Signed .signature) (κ, tt)). (token κ q ⊛ ‵ (result .row (κ, tt) .own r (v ∷ []))) ⊛ raw
             (ensured 𝓤 H A Signed clauses (κ, tt) a tt r)))) (id⊢ 𝓤 _) $ await t tt $ pick t (λ r.

@@ -75,7 +75,8 @@ module _ {M : Type 1} (𝓤 : URA M) (H : Heap 𝓤) (A : Atoms 𝓤) (W : Given
   pub reader-fits : Is (Held (κ, tt)) reader (value reader ∷ []) → WT (value reader)
   reader-fits is = LL.lawful (heldType (κ, tt)) (heldLaws (κ, tt)) 𝓤 H A W .typed reader _ is .0 .1
 
-  pub parts-fit : Is (ShrSlice (named 0) κ u8) (reader .sheet) (slice (reader .sheet) ∷ []) × (Is usize (reader .at) (vint w64 (reader .at) ∷ []) × Unit {0})
+  pub parts-fit : Is (ShrSlice (named 0) κ u8) (reader .sheet) (slice (reader .sheet) ∷ [])
+      × (Is usize (reader .at) (vint w64 (reader .at) ∷ []) × Unit {0})
       → WT (value reader)
   parts-fit are = (shr-slice-lawful 𝓤 H A W (named 0) κ u8 .typed (reader .sheet) _ (are .0) .0 .1, (record { fits = are .1 .0 .1 }, tt))
 

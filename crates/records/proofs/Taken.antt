@@ -55,9 +55,10 @@ taking k τ = record {
 abbrev pub parts : Reader → Vals
 parts reader = vcons (slice (reader .sheet)) (vcons (vint w64 (reader .at)) vnil)
 
-module _ (result : Slot 1) (φ : Fact of-reader result) {M : Type 1} (𝓤 : URA M) (H : Heap 𝓤) (A : Atoms 𝓤) (W : Given 𝓤 H A) (C : Calls 𝓤 H) (Λ : Loops 𝓤 H)
-    (κ : Lft) (q : Share) (reader : Reader) where
-  pub takes : (k : ℕ) {τ : Ty} {d : ℕ} → fieldOf (readers.mir (named 0)) k ≡ some (τ, d) → (r : result .row (κ, tt) .Denot) → φ (κ, tt) (reader, tt) r
+module _ (result : Slot 1) (φ : Fact of-reader result) {M : Type 1} (𝓤 : URA M) (H : Heap 𝓤) (A : Atoms 𝓤) (W : Given 𝓤 H A)
+    (C : Calls 𝓤 H) (Λ : Loops 𝓤 H) (κ : Lft) (q : Share) (reader : Reader) where
+  pub takes : (k : ℕ) {τ : Ty} {d : ℕ} → fieldOf (readers.mir (named 0)) k ≡ some (τ, d)
+      → (r : result .row (κ, tt) .Denot) → φ (κ, tt) (reader, tt) r
       → (WT (value reader) → Holds (hasTy τ (getV (parts reader) k)) × WT (getV (parts reader) k))
       → ent 𝓤 (sem 𝓤 H A (Whole κ reader)) (sem 𝓤 H A (result .row (κ, tt) .own r (getV (parts reader) k ∷ [])))
       → Walk of-reader result φ 𝓤 H A κ q (reader, tt) C Λ (taking k τ)
@@ -66,7 +67,8 @@ module _ (result : Slot 1) (φ : Fact of-reader result) {M : Type 1} (𝓤 : URA
       qed W (token κ q ∷ ‵ (Whole κ reader) ∷ []) ∵
       enter ! C Λ (taking k τ) (value reader ∷ []) _ $ alloc1 ! (λ returned. alloc1 ! (λ taken. alloc0 ! $ params1 ! $
       pass1 ! (init ! 0 refl (tt, fits)) $ pass0 ! $
-      assigns ! (of-opd ! (load ! (from ! (fld ! at (stop !))) (look-in ! 0 (sub ! k at (whole !))))) (from ! (stop !)) (init ! 2 refl (fit fits)) $
+      assigns ! (of-opd ! (load ! (from ! (fld ! at (stop !))) (look-in ! 0 (sub ! k at (whole !))))) (from ! (stop !))
+      (init ! 2 refl (fit fits)) $
       returns ! (look ! 2 refl) $ forget ! 0 refl $ forget ! 2 refl $ move ! (2 ∷ 3 ∷ []) $ free1 ! $ free1 ! $ free0 ! $
       -- [the token; what the reader owns]
       move ! (1 ∷ []) $ use1 W (‵ (result .row (κ, tt) .own r (getV (parts reader) k ∷ []))) out $ move ! (1 ∷ 0 ∷ []) $

@@ -37,7 +37,8 @@ end-record {rest} here =
     let first = not (eqb (bodyLength rest) 0) in
     let second = not (eqb (length (after rest)) 0) in
     let no-body : bodyLength rest ≡ 0 = eqb-true _ _ (not-false (eqb (bodyLength rest) 0) (neither-left first second (here .sound))) in
-    let no-more : length (after rest) ≡ 0 = eqb-true _ _ (not-false (eqb (length (after rest)) 0) (neither-right first second (here .sound))) in
+    let no-more : length (after rest) ≡ 0 =
+    eqb-true _ _ (not-false (eqb (length (after rest)) 0) (neither-right first second (here .sound))) in
     let size = length-body rest (here .whole) in
     record-is rest 3 (here .whole) (here .is-end) (omega arith) (omega arith) (empty (body rest) (omega arith))
     ∙ ap (λ (l : List ℕ). recordOf 3 [] ++ l) (empty (after rest) no-more)

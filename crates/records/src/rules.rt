@@ -28,12 +28,12 @@ fn above(condition: u8, action: u8, opens: u8, ending: usize, middle: usize, siz
 }
 
 // S2 is too long, or some byte of S1 or S2 is no letter.
-fn faulty_letters(ending: &[u8], replacement: &[u8]) -> bool
-    ensures { λ r. ⌜ r ≡ ltb 12 (length (now (replacement .entry))) || outside (now (ending .entry)) || outside (now (replacement .entry)) ⌝ }
+fn faulty_letters(s1: &[u8], s2: &[u8]) -> bool
+    ensures { λ r. ⌜ r ≡ ltb 12 (length (now (s2 .entry))) || outside (now (s1 .entry)) || outside (now (s2 .entry)) ⌝ }
 {
-    let long = replacement.len() > 12;
-    let first = has_other(ending);
-    let second = has_other(replacement);
+    let long = s2.len() > 12;
+    let first = has_other(s1);
+    let second = has_other(s2);
     long | first | second
 }
 

@@ -85,7 +85,8 @@ module _ {sheet : List ℕ} {at groups rules nodes first count : ℕ} (state : S
   faulty-record is = sym (decided (rest-fault sheet at groups rules is))
 
   -- a record that is not faulty by itself, out of its place
-  pub group-refused : {number next : ℕ} → GroupAt sheet at number next → misplacedGroup groups (body rest) ≡ true → Refused at ≡ checked sheet
+  pub group-refused : {number next : ℕ} → GroupAt sheet at number next → misplacedGroup groups (body rest) ≡ true
+      → Refused at ≡ checked sheet
   group-refused here is = faulty-record (group-fault groups rules (here .here) ∙ is)
 
   pub rule-refused : {c a o start middle next : ℕ} → RuleAt sheet at c a o start middle next → misplacedRule groups rules ≡ true

@@ -135,7 +135,8 @@ pub record RuleNext {sheet : List ℕ} {at groups rules : ℕ} {list : List Rule
   pub forward : at < next
   pub few : rules < 128
 
-module _ {sheet : List ℕ} {at groups rules : ℕ} {list : List Rule} {more : List Group} (here : Holding sheet at groups rules list more) where
+module _ {sheet : List ℕ} {at groups rules : ℕ} {list : List Rule} {more : List Group}
+    (here : Holding sheet at groups rules list more) where
   never-faulty : faulty groups rules (drop at sheet) ≡ false
   never-faulty =
       by-test (faulty groups rules (drop at sheet))

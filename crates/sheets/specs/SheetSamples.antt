@@ -55,14 +55,16 @@ bounds =
     ∷ []
 
 pub samples-hold : map (λ s. checked (s .0)) samples ≡ map (λ s. s .1) samples
-unfolding samples nineteen number bodyLength kind body recordLength after gateNumber gate ending replacement rule allSmall outside cut faultyGroup
+unfolding samples nineteen number bodyLength kind body recordLength after gateNumber gate ending replacement rule allSmall outside cut
+    faultyGroup
     misplacedGroup faultyNumbers faultyLetters faultyAction faultyRule misplacedRule faultyEnd byKind faultyAlone misplaced faulty
     readRest readSheet same tails tailsOf member distinct nodeCount checked
 samples-hold = refl
 
 pub bounds-hold : map (λ s. checked (sheetOf (s .0))) bounds ≡ map (λ s. s .1) bounds
 unfolding bounds group paper.letters rules.rule two recordOf gateBody ruleBody rulesBytes groupsBytes sheetOf number bodyLength
-    kind body recordLength after gateNumber gate ending replacement rule allSmall outside cut faultyGroup misplacedGroup faultyNumbers faultyLetters
+    kind body recordLength after gateNumber gate ending replacement rule allSmall outside cut faultyGroup misplacedGroup faultyNumbers
+    faultyLetters
     faultyAction faultyRule misplacedRule faultyEnd byKind faultyAlone misplaced faulty readRest readSheet same tails tailsOf
     member distinct nodeCount checked
 bounds-hold = refl

@@ -45,8 +45,8 @@ pub record Going (sheet table : List ℕ) (at root next rules count : ℕ) : Typ
   pub midway : Midway (groupsOf sheet) table count rules (endsLeft root next list more)
   pub room : length table ≡ 4 * nodeCount (groupsOf sheet)
 
-start-with : (all : List Group) (table : List ℕ) (count : ℕ) → 0 < count → count ≡ length all → take (4 * count) table ≡ replicate (4 * count) 0
-    → 4 * count ≤ length table → Midway all table count 0 (ends 0 all)
+start-with : (all : List Group) (table : List ℕ) (count : ℕ) → 0 < count → count ≡ length all
+    → take (4 * count) table ≡ replicate (4 * count) 0 → 4 * count ≤ length table → Midway all table count 0 (ends 0 all)
 start-with [] table count h c zeros fits = absurd (omega arith)
 start-with (group ∷ groups) table count h c zeros fits = midway-start group groups table count c zeros fits
 
@@ -81,7 +81,8 @@ module _ {sheet table : List ℕ} {at root next rules count : ℕ} (state : Goin
         room = state .room;
       }
 
-  pub going-rule : {c a o start middle after : ℕ} → RuleNext (state .holds) c a o start middle after → (table-then : List ℕ) (count-then : ℕ)
+  pub going-rule : {c a o start middle after : ℕ} → RuleNext (state .holds) c a o start middle after
+      → (table-then : List ℕ) (count-then : ℕ)
       → table-then ≡ note (rules + 1) (enter (inward (take (middle - start) (drop start sheet))) (laying table count root)) .table
       → count-then ≡ enter (inward (take (middle - start) (drop start sheet))) (laying table count root) .count
       → Going sheet table-then after root next (rules + 1) count-then

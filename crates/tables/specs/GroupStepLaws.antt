@@ -55,12 +55,14 @@ module _ (table : List ℕ) (root number : ℕ) (place : List ℕ) (size : ℕ) 
   pub step-none : found ≡ 0 → Stepped result (length place) place size false true
   step-none e = unchanged (walked-picks table root number word rules found deep ∙ rw (eq-eqb found 0 e))
 
-  pub step-turned-down : (found ≡ 0 → ⊥) → picked table root found word number rules ≡ none → Stepped result (length place) place size false true
+  pub step-turned-down : (found ≡ 0 → ⊥) → picked table root found word number rules ≡ none
+      → Stepped result (length place) place size false true
   unfolding picked
   step-turned-down e p = unchanged (walked-picks table root number word rules found deep ∙ rw (ne-eqb found 0 e, p))
 
   -- a rule is obeyed
-  module _ (sheet : List ℕ) (c a o start middle next : ℕ) (one : Rule) (facts : RuleFacts sheet c a o start middle next one) (deeper : found ≡ 0 → ⊥)
+  module _ (sheet : List ℕ) (c a o start middle next : ℕ) (one : Rule) (facts : RuleFacts sheet c a o start middle next one)
+      (deeper : found ≡ 0 → ⊥)
       (is-picked : picked table root found word number rules ≡ some one) where
     abbrev part : ℕ
     part = size - (middle - start)
@@ -97,7 +99,8 @@ module _ (table : List ℕ) (root number : ℕ) (place : List ℕ) (size : ℕ) 
         ≡ take (part - 1) place = rw (single, left) (take-take (part - 1) part place (omega arith)) in
         rw (given, letters-left)
         (record {
-          fits-is = sym (le-leb (length (take (part - 1) place)) (length place) (omega (arith, length-take-le (part - 1) place (omega arith))));
+          fits-is =
+              sym (le-leb (length (take (part - 1) place)) (length place) (omega (arith, length-take-le (part - 1) place (omega arith))));
           letters = λ t. (refl, omega arith, refl);
         })
 

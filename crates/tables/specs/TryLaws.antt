@@ -53,12 +53,18 @@ pub record Trying (table : List ℕ) (root found : ℕ) (word sheet : List ℕ) 
   pub list : List Rule
   pub more : List Group
   pub holds-here : Holding sheet place groups rules list more
-  pub decides : picked table root found word (rules + 1) list ≡ picked table root found word (first + 1) (rulesOf (restAt sheet start groups first))
+  pub decides : picked table root found word (rules + 1) list
+      ≡ picked table root found word (first + 1) (rulesOf (restAt sheet start groups first))
 
 pub trying-start : (table : List ℕ) (root found : ℕ) (word sheet : List ℕ) (groups start first : ℕ) → Readable sheet start groups first
     → Trying table root found word sheet groups start first start first
 trying-start table root found word sheet groups start first is =
-    record { list = rulesOf (restAt sheet start groups first); more = groupsAfter (restAt sheet start groups first); holds-here = record { rest-is = is }; decides = refl }
+    record {
+      list = rulesOf (restAt sheet start groups first);
+      more = groupsAfter (restAt sheet start groups first);
+      holds-here = record { rest-is = is };
+      decides = refl;
+    }
 
 picked-none : (table : List ℕ) (root found : ℕ) (word : List ℕ) (number : ℕ) (list : List Rule) → list ≡ []
     → picked table root found word number list ≡ none
@@ -67,7 +73,8 @@ picked-none table root found word number list e = rw e
 
 module _ (table : List ℕ) (root found : ℕ) (word : List ℕ) (number : ℕ) (list : List Rule) (one : Rule) (more : List Rule)
     (split : list ≡ one ∷ more) where
-  picked-here : obeys table root found word number (one .condition) (one .ending) ≡ true → picked table root found word number list ≡ some one
+  picked-here : obeys table root found word number (one .condition) (one .ending) ≡ true
+      → picked table root found word number list ≡ some one
   unfolding picked pick obeys
   picked-here t = rw (split, t)
 
@@ -132,7 +139,8 @@ module _ (table : List ℕ) (root found : ℕ) (word : List ℕ) (number conditi
   obeys-other there e h = rw (← e, ne-eqb found there h, and-false)
 
   pub obeys-judged : (there : ℕ) (answer : Bool) (part : ℕ) → found ≤ number → there ≡ held table (reached table root s1) → found ≡ there
-      → part ≡ length word - length s1 → answer ≡ holds condition (take part word) → answer ≡ obeys table root found word number condition s1
+      → part ≡ length word - length s1 → answer ≡ holds condition (take part word)
+      → answer ≡ obeys table root found word number condition s1
   unfolding obeys before
   obeys-judged there answer part h e f p j = rw (le-leb found number h, ← e, eq-eqb found there f, ← p) j
 

@@ -134,5 +134,6 @@ module _ {table sheet first : List ℕ} {at next rules : ℕ} {opened : Bool} {w
       let over = end-next (state .holds) here in
       ended (state .more) (over .1) ∙ state .decides
     where
-      ended : (more : List Group) → more ≡ [] → done word ≡ walk table (length first) next (rules + 1 + length (state .list)) more opened word
+      ended : (more : List Group) → more ≡ []
+          → done word ≡ walk table (length first) next (rules + 1 + length (state .list)) more opened word
       ended more e = rw e

@@ -82,7 +82,9 @@ enum-known-frame : tie.Need-enum-known-frame
 enum-known-frame c = search needs
 
 -- what the frame says
-frame-of : (c : tie.After-known-told) → (let args = c .before .before .before .before .before .args in let given = c .before .frame .given .0 in
+frame-of : (c : tie.After-known-told)
+    → (let args = c .before .before .before .before .before .args in
+    let given = c .before .frame .given .0 in
     FramedAt (args .sheet .now) (args .at) (given .0) (given .1 .0) (given .1 .1 .0))
 frame-of c =
     let args = c .before .before .before .before .before .args in
@@ -121,13 +123,16 @@ returns-2 : tie.Need-returns-2
 returns-2 c = c .rule-in .ensures ∙ of-rule _ _ (frame-of (c .before .before .before .before)) (c .before .before .if2 .taken)
 
 returns-3 : tie.Need-returns-3
-returns-3 c = of-another-kind _ _ (frame-of (c .before .before .before)) (c .before .before .if1 .left) (c .before .if2 .left) (c .if3 .taken)
+returns-3 c =
+    of-another-kind _ _ (frame-of (c .before .before .before)) (c .before .before .if1 .left) (c .before .if2 .left) (c .if3 .taken)
 
 returns-4 : tie.Need-returns-4
 returns-4 c = end-with-body _ _ (frame-of (c .before .before .before .before)) (c .before .if3 .left) (c .if4 .taken)
 
 returns-5 : tie.Need-returns-5
-returns-5 c = end-alone _ _ (frame-of (c .before .before .before .before .before)) (c .before .before .if3 .left) (c .before .if4 .left) (c .if5 .taken)
+returns-5 c =
+    let third = c .before .before in
+    end-alone _ _ (frame-of (third .before .before .before)) (third .if3 .left) (c .before .if4 .left) (c .if5 .taken)
 
 returns-6 : tie.Need-returns-6
 returns-6 c =
@@ -135,7 +140,9 @@ returns-6 c =
     of-cut _ _ (framed (args .sheet .now) (args .at) Cut (sym (c .before .before .frame-at .ensures) ∙ c .enum-told .given .1))
 
 returns-7 : tie.Need-returns-7
-returns-7 c = end-last _ _ (frame-of (c .before .before .before .before .before)) (c .before .before .if3 .left) (c .before .if4 .left) (c .if5 .left)
+returns-7 c =
+    let third = c .before .before in
+    end-last _ _ (frame-of (third .before .before .before)) (third .if3 .left) (c .before .if4 .left) (c .if5 .left)
 
 pub record-at-spec : {M : Type 1} → statement M
 record-at-spec =

@@ -76,11 +76,13 @@ abbrev local : Lft → NamedLft
 local κ = record { mir = erased; lft = κ }
 
 -- the made reader's record is the one at the place of the sheet
-is-at : (κ : Lft) (reader r : Reader) (one : Record) → IsMade (κ, tt) (fields reader) r → IsNext (κ, tt) (r, tt) one → IsAt (κ, tt) (fields reader) one
+is-at : (κ : Lft) (reader r : Reader) (one : Record) → IsMade (κ, tt) (fields reader) r → IsNext (κ, tt) (r, tt) one
+    → IsAt (κ, tt) (fields reader) one
 is-at κ reader r one is-made is-next = cc
 
 walk : {M : Type 1} (𝓤 : URA M) (H : Heap 𝓤) (A : Atoms 𝓤) (W : Given 𝓤 H A) (C : Calls 𝓤 H) (Λ : Loops 𝓤 H)
-    → FmC 𝓤 H (W .laws) C → Triple 𝓤 (C #made) (Known of-sheet a-reader IsMade 𝓤 H A) → Triple 𝓤 (C #next) (Known of-reader a-record IsNext 𝓤 H A)
+    → FmC 𝓤 H (W .laws) C → Triple 𝓤 (C #made) (Known of-sheet a-reader IsMade 𝓤 H A)
+    → Triple 𝓤 (C #next) (Known of-reader a-record IsNext 𝓤 H A)
     → (κ : Lft) (q : Share) (reader : Reader) → Walk of-sheet a-record IsAt 𝓤 H A κ q (fields reader) C Λ code.function
 walk 𝓤 H A W C Λ fm known-made known-next κ q reader are =
     let fits = parts-fit 𝓤 H A W κ reader are in
@@ -89,10 +91,12 @@ walk 𝓤 H A W C Λ fm known-made known-next κ q reader are =
     pass1 ! (init ! 4 refl (tt, fits .0)) $ pass1 ! (init ! 2 refl (tt, fits .1 .0)) $ pass0 ! $
     move ! (8 ∷ 9 ∷ []) $
     calls of-sheet a-reader IsMade 𝓤 H A κ q (fields reader) (field-values reader) ! fm known-made
-    (and-then ! (load ! (from ! (stop !)) (look ! 5 refl)) (and-then ! (load ! (from ! (stop !)) (look ! 3 refl)) (no-more !))) (λ u r is-made.
+    (and-then ! (load ! (from ! (stop !)) (look ! 5 refl)) (and-then ! (load ! (from ! (stop !)) (look ! 3 refl)) (no-more !)))
+    (λ u r is-made.
     -- [what the reader owns; the token; room for the reader; the other locals]
     peeks ! (Held (κ, tt)) (Is (Held (κ, tt))) (shows 𝓤 H A (Held (κ, tt))) r (u ∷ []) (λ fine.
-    land ! (from ! (stop !)) (init ! 2 refl (LL.lawful (holder.the-type (local κ)) (readers.the-laws (local κ)) 𝓤 H A W .typed r _ fine .0)) $
+    land ! (from ! (stop !))
+    (init ! 2 refl (LL.lawful (holder.the-type (local κ)) (readers.the-laws (local κ)) 𝓤 H A W .typed r _ fine .0)) $
     nothing ! $ move ! (1 ∷ 0 ∷ []) $ fjoin ! $ move ! (1 ∷ []) $
     calls of-reader a-record IsNext 𝓤 H A κ q (r, tt) (u ∷ [], tt) ! fm known-next
     (and-then ! (load ! (from ! (stop !)) (look ! 1 refl)) (no-more !)) (λ w one is-next.
@@ -100,13 +104,16 @@ walk 𝓤 H A W C Λ fm known-made known-next κ q reader are =
     peeks ! drawn.the-row (Is drawn.the-row) (shows 𝓤 H A drawn.the-row) one (w ∷ []) (λ whole.
     land ! (from ! (stop !)) (init ! 8 refl (EL.lawful drawn.the-type records.the-laws 𝓤 H A W tt .typed one _ whole .0)) $
     returns ! (look ! 8 refl) $ forget ! 2 refl $ forget ! 4 refl $ forget ! 6 refl $ forget ! 8 refl $
-    move ! (8 ∷ 9 ∷ []) $ free1 ! $ move ! (6 ∷ 7 ∷ []) $ free1 ! $ move ! (4 ∷ 5 ∷ []) $ free1 ! $ move ! (2 ∷ 3 ∷ []) $ free1 ! $ free0 ! $
-    move ! (1 ∷ 0 ∷ []) $ by ! (leaves of-sheet a-record IsAt 𝓤 H A κ q (fields reader) W one w (is-at κ reader r one is-made is-next))))))))))
+    move ! (8 ∷ 9 ∷ []) $ free1 ! $ move ! (6 ∷ 7 ∷ []) $ free1 ! $ move ! (4 ∷ 5 ∷ []) $ free1 ! $
+    move ! (2 ∷ 3 ∷ []) $ free1 ! $ free0 ! $ move ! (1 ∷ 0 ∷ []) $
+    by ! (leaves of-sheet a-record IsAt 𝓤 H A κ q (fields reader) W one w (is-at κ reader r one is-made is-next))))))))))
 
 pub draw-spec : {M : Type 1} → stated.statement M
 unfolding code.routine
 draw-spec 𝓤 H 𝓜 𝓖 𝓡 =
     meets of-sheet a-record IsAt 𝓤 H 𝓜 𝓖 𝓡 code.env #draw code.function (code.unfolded 𝓤 H 𝓜 𝓡)
     (λ fm κ q a. walk 𝓤 H (𝓖 .A) (givenOf 𝓤 H 𝓜 𝓖) _ _ fm
-    (cited 𝓤 H (Known of-sheet a-reader IsMade 𝓤 H (𝓖 .A)) 𝓜 𝓡 code.env #made made-symbol.routine code.calls-records·reader·made (made-met.met 𝓤 H 𝓜 𝓖 𝓡))
-    (cited 𝓤 H (Known of-reader a-record IsNext 𝓤 H (𝓖 .A)) 𝓜 𝓡 code.env #next next-symbol.routine code.calls-records·reader·next (next-met.met 𝓤 H 𝓜 𝓖 𝓡)) κ q (record { sheet = a .0; at = a .1 .0 }))
+    (cited 𝓤 H (Known of-sheet a-reader IsMade 𝓤 H (𝓖 .A)) 𝓜 𝓡 code.env #made made-symbol.routine
+    code.calls-records·reader·made (made-met.met 𝓤 H 𝓜 𝓖 𝓡))
+    (cited 𝓤 H (Known of-reader a-record IsNext 𝓤 H (𝓖 .A)) 𝓜 𝓡 code.env #next next-symbol.routine
+    code.calls-records·reader·next (next-met.met 𝓤 H 𝓜 𝓖 𝓡)) κ q (record { sheet = a .0; at = a .1 .0 }))

@@ -31,4 +31,6 @@ unfolding code.routine
 held-spec 𝓤 H 𝓜 𝓖 𝓡 =
     let W = givenOf 𝓤 H 𝓜 𝓖 in
     meets of-reader (held.signature .result) IsHeld 𝓤 H 𝓜 𝓖 𝓡 code.env #held code.function (code.unfolded 𝓤 H 𝓜 𝓡)
-    (λ fm κ q a. takes (held.signature .result) IsHeld 𝓤 H (𝓖 .A) W _ _ κ q (a .0) 0 refl (a .0 .sheet) refl (λ fits. (tt, fits .0)) (out 𝓤 H (𝓖 .A) W κ (a .0)))
+    (λ fm κ q a.
+    takes (held.signature .result) IsHeld 𝓤 H (𝓖 .A) W _ _ κ q (a .0) 0 refl (a .0 .sheet) refl (λ fits. (tt, fits .0))
+    (out 𝓤 H (𝓖 .A) W κ (a .0)))

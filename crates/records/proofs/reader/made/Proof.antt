@@ -39,19 +39,22 @@ use Rattle.records.proofs.reader.made.Key.{name as #made}
 use Rattle.records.proofs.reader.made.Statement as stated
 use Rattle.records.proofs.reader.made.Code as code
 
-walk : {M : Type 1} (𝓤 : URA M) (H : Heap 𝓤) (A : Atoms 𝓤) → Given 𝓤 H A → (C : Calls 𝓤 H) (Λ : Loops 𝓤 H) (κ : Lft) (q : Share) (reader : Reader)
+walk : {M : Type 1} (𝓤 : URA M) (H : Heap 𝓤) (A : Atoms 𝓤) → Given 𝓤 H A
+    → (C : Calls 𝓤 H) (Λ : Loops 𝓤 H) (κ : Lft) (q : Share) (reader : Reader)
     → Walk of-sheet a-reader IsMade 𝓤 H A κ q (fields reader) C Λ code.function
 walk 𝓤 H A W C Λ κ q reader are =
     let fits = parts-fit 𝓤 H A W κ reader are in
     qed W (token κ q ∷ ‵ (Parts κ reader) ∷ []) ∵ enter ! C Λ code.function (slice (reader .sheet) ∷ vint w64 (reader .at) ∷ []) _ $
     alloc1 ! (λ result. alloc1 ! (λ first. alloc1 ! (λ second. alloc0 ! $ params1 ! $
     pass1 ! (init ! 2 refl (tt, fits .0)) $ pass1 ! (init ! 0 refl (tt, fits .1 .0)) $ pass0 ! $
-    assigns ! (agg ! (and-then ! (load ! (from ! (stop !)) (look ! 2 refl)) (and-then ! (load ! (from ! (stop !)) (look ! 0 refl)) (no-more !))))
+    assigns !
+    (agg ! (and-then ! (load ! (from ! (stop !)) (look ! 2 refl)) (and-then ! (load ! (from ! (stop !)) (look ! 0 refl)) (no-more !))))
     (from ! (stop !)) (init ! 4 refl (tt, fits)) $
     returns ! (look ! 4 refl) $ forget ! 0 refl $ forget ! 2 refl $ forget ! 4 refl $
     move ! (4 ∷ 5 ∷ []) $ free1 ! $ move ! (2 ∷ 3 ∷ []) $ free1 ! $ free1 ! $ free0 ! $
     -- [the token; what the sheet and the place own]
-    move ! (1 ∷ []) $ use1 W (‵ (Held (κ, tt) .own reader (value reader ∷ []))) (own-shut 𝓤 H A W (heldType (κ, tt)) (heldLaws (κ, tt)) (fields reader)) $
+    move ! (1 ∷ []) $ use1 W (‵ (Held (κ, tt) .own reader (value reader ∷ [])))
+    (own-shut 𝓤 H A W (heldType (κ, tt)) (heldLaws (κ, tt)) (fields reader)) $
     move ! (1 ∷ 0 ∷ []) $ by ! (leaves of-sheet a-reader IsMade 𝓤 H A κ q (fields reader) W reader (value reader) (refl, refl)))))
 
 pub made-spec : {M : Type 1} → stated.statement M

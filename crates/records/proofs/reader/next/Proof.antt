@@ -69,9 +69,12 @@ walk : {M : Type 1} (𝓤 : URA M) (H : Heap 𝓤) (A : Atoms 𝓤) (W : Given �
 walk 𝓤 H A W C Λ fm known κ q reader are =
     let fits = reader-fits 𝓤 H A W κ reader (are .0) in
     qed W (token κ q ∷ ‵ (Whole κ reader) ∷ []) ∵ enter ! C Λ code.function (value reader ∷ []) _ $
-    alloc1 ! (λ result. alloc1 ! (λ taken. alloc1 ! (λ first. alloc1 ! (λ second. alloc0 ! $ params1 ! $ pass1 ! (init ! 4 refl (tt, fits)) $ pass0 ! $
-    assigns ! (of-opd ! (load ! (from ! (fld ! refl (stop !))) (look-in ! 4 (sub ! 0 refl (whole !))))) (from ! (stop !)) (init ! 2 refl (tt, fits .0)) $
-    assigns ! (of-opd ! (load ! (from ! (fld ! refl (stop !))) (look-in ! 4 (sub ! 1 refl (whole !))))) (from ! (stop !)) (init ! 0 refl (tt, fits .1 .0)) $
+    alloc1 ! (λ result. alloc1 ! (λ taken. alloc1 ! (λ first. alloc1 ! (λ second. alloc0 ! $ params1 ! $
+    pass1 ! (init ! 4 refl (tt, fits)) $ pass0 ! $
+    assigns ! (of-opd ! (load ! (from ! (fld ! refl (stop !))) (look-in ! 4 (sub ! 0 refl (whole !))))) (from ! (stop !))
+    (init ! 2 refl (tt, fits .0)) $
+    assigns ! (of-opd ! (load ! (from ! (fld ! refl (stop !))) (look-in ! 4 (sub ! 1 refl (whole !))))) (from ! (stop !))
+    (init ! 0 refl (tt, fits .1 .0)) $
     move ! (9 ∷ []) $ use1 W (‵ (Parts κ reader)) (apart 𝓤 H A W κ reader) $ move ! (9 ∷ 0 ∷ []) $
     -- [the token; what the sheet and the place own; the four locals]
     calls of-sheet a-record IsAt 𝓤 H A κ q (fields reader) (field-values reader) ! fm known
@@ -80,7 +83,8 @@ walk 𝓤 H A W C Λ fm known κ q reader are =
     peeks ! drawn.the-row (Is drawn.the-row) (shows 𝓤 H A drawn.the-row) r (u ∷ []) (λ fine.
     land ! (from ! (stop !)) (init ! 8 refl (EL.lawful drawn.the-type records.the-laws 𝓤 H A W tt .typed r _ fine .0)) $
     returns ! (look ! 8 refl) $ forget ! 2 refl $ forget ! 4 refl $ forget ! 6 refl $ forget ! 8 refl $
-    move ! (8 ∷ 9 ∷ []) $ free1 ! $ move ! (6 ∷ 7 ∷ []) $ free1 ! $ move ! (4 ∷ 5 ∷ []) $ free1 ! $ move ! (2 ∷ 3 ∷ []) $ free1 ! $ free0 ! $
+    move ! (8 ∷ 9 ∷ []) $ free1 ! $ move ! (6 ∷ 7 ∷ []) $ free1 ! $ move ! (4 ∷ 5 ∷ []) $ free1 ! $
+    move ! (2 ∷ 3 ∷ []) $ free1 ! $ free0 ! $
     move ! (1 ∷ 0 ∷ []) $ by ! (leaves of-reader a-record IsNext 𝓤 H A κ q (reader, tt) W r u is)))))))
 
 pub next-spec : {M : Type 1} → stated.statement M

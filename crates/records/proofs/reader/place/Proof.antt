@@ -26,11 +26,14 @@ IsPlace κs a at = at ≡ a .0 .at
 out : {M : Type 1} (𝓤 : URA M) (H : Heap 𝓤) (A : Atoms 𝓤) → Given 𝓤 H A → (κ : Lft) (reader : Reader)
     → ent 𝓤 (sem 𝓤 H A (Whole κ reader)) (sem 𝓤 H A (place.signature .result .row (κ, tt) .own (reader .at) (vint w64 (reader .at) ∷ [])))
 out 𝓤 H A W κ reader =
-    qed W (‵ (Whole κ reader) ∷ []) ∵ use1 W (‵ (Parts κ reader)) (apart 𝓤 H A W κ reader) $ fsplit ! $ drop ! $ fsplit ! $ move ! (1 ∷ []) $ drop ! $ done !
+    qed W (‵ (Whole κ reader) ∷ []) ∵ use1 W (‵ (Parts κ reader)) (apart 𝓤 H A W κ reader) $
+    fsplit ! $ drop ! $ fsplit ! $ move ! (1 ∷ []) $ drop ! $ done !
 
 pub place-spec : {M : Type 1} → stated.statement M
 unfolding code.routine
 place-spec 𝓤 H 𝓜 𝓖 𝓡 =
     let W = givenOf 𝓤 H 𝓜 𝓖 in
     meets of-reader (place.signature .result) IsPlace 𝓤 H 𝓜 𝓖 𝓡 code.env #place code.function (code.unfolded 𝓤 H 𝓜 𝓡)
-    (λ fm κ q a. takes (place.signature .result) IsPlace 𝓤 H (𝓖 .A) W _ _ κ q (a .0) 1 refl (a .0 .at) refl (λ fits. (tt, fits .1 .0)) (out 𝓤 H (𝓖 .A) W κ (a .0)))
+    (λ fm κ q a.
+    takes (place.signature .result) IsPlace 𝓤 H (𝓖 .A) W _ _ κ q (a .0) 1 refl (a .0 .at) refl (λ fits. (tt, fits .1 .0))
+    (out 𝓤 H (𝓖 .A) W κ (a .0)))

@@ -39,7 +39,8 @@ abbrev μ-loop : tie.MeasureT-loop
 μ-loop one other k₀ k = length one - k
 
 -- where no further letter is equal, the loop is at the answer
-at-the-answer : (one other : List ℕ) (k : ℕ) → (k ≤ length one) × (k ≤ length other) × Equal one other k → Stop one other k → k ≡ shared one (tails other)
+at-the-answer : (one other : List ℕ) (k : ℕ) → (k ≤ length one) × (k ≤ length other) × Equal one other k → Stop one other k
+    → k ≡ shared one (tails other)
 at-the-answer one other k so-far stop = sym (shared-is one other k (so-far .0) (so-far .2) stop)
 
 loop-holds : tie.Need-loop-holds Inv-loop μ-loop

@@ -53,7 +53,8 @@ enum-known-found c = search needs
 
 -- a group was drawn, and this stands after it
 group-of : (c : tie.After-known-told Inv-loop μ-loop)
-    → GroupNext (c .before .before .before .before .before .loop .inv .5 .holds) (c .before .found .given .0 .0) (c .before .found .given .0 .1 .0)
+    → (let given = c .before .found .given .0 in
+    GroupNext (c .before .before .before .before .before .loop .inv .5 .holds) (given .0) (given .1 .0))
 group-of c =
     group-next (c .before .before .before .before .before .loop .inv .5 .holds)
     (sym (c .before .before .before .draw .ensures) ∙ c .before .found .given .1)
