@@ -9,6 +9,7 @@ pub mod Numbered
 pub mod Nodes
 pub mod WordSamples
 pub mod TestLaws
+pub mod ListLaws
 pub mod LettersLaws
 pub mod GroupsLaws
 pub mod ReadingLaws
@@ -16,6 +17,8 @@ pub mod LongerFirst
 pub mod NumberedLaws
 pub mod ChosenLaws
 pub mod MemberLaws
+pub mod LookBack
+pub mod SharedTails
 pub mod DistinctLaws
 pub mod TurnLaws
 pub mod LengthLaws

@@ -1,6 +1,12 @@
--- Laws of the Boolean tests that the definitions are made of. Assumes nothing.
+-- Laws of the Boolean tests that the definitions are made of.
+use Prim.Native.Nat.{ℕ}
+use native.Mathlib.Omega.{arith}
 use mathlib.Core.Path.{_≡_, refl, sym}
 use mathlib.Core.Bool.{Bool, true, false, _&&_, _||_, or-true, true≢false, false≢true}
+
+-- two constructors are never equal: what would follow from that is anything. `apart (cc)` says so where `cc` sees them equal
+pub apart : {P : Type 0} → _≡_ {A = ℕ} 0 1 → P
+apart equal = absurd (omega arith)
 
 -- one of two cases
 pub by-test {ℓ} : {C : Type ℓ} (b : Bool) → (b ≡ true → C) → (b ≡ false → C) → C
@@ -40,6 +46,21 @@ neither-left false b e = refl
 pub neither-right : (a b : Bool) → (a || b) ≡ false → b ≡ false
 neither-right true b e = absurd (true≢false e)
 neither-right false b e = e
+
+-- three, and six, of which none holds
+pub none-of-three : (a b c : Bool) → a || b || c ≡ false → (a ≡ false) × (b ≡ false) × (c ≡ false)
+none-of-three true b c h = absurd (true≢false h)
+none-of-three false true c h = absurd (true≢false h)
+none-of-three false false c h = (refl, refl, h)
+
+pub none-of-six : (a b c d e f : Bool) → a || b || c || d || e || f ≡ false
+    → (a ≡ false) × (b ≡ false) × (c ≡ false) × (d ≡ false) × (e ≡ false) × (f ≡ false)
+none-of-six true b c d e f h = absurd (true≢false h)
+none-of-six false true c d e f h = absurd (true≢false h)
+none-of-six false false true d e f h = absurd (true≢false h)
+none-of-six false false false true e f h = absurd (true≢false h)
+none-of-six false false false false true f h = absurd (true≢false h)
+none-of-six false false false false false f h = (refl, refl, refl, refl, refl, h)
 
 -- two tests that hold together are the same
 pub test-ext : (a b : Bool) → (a ≡ true → b ≡ true) → (b ≡ true → a ≡ true) → a ≡ b

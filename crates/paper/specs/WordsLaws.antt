@@ -16,8 +16,7 @@ use Rattle.paper.specs.Words.{taken, turnedDown, judged, readingOutcome,
 
 -- ## The first byte outside a to z
 
-pub other-here :
-    (word : List ℕ) (i : ℕ) → i < length word → small (getD word i 0) ≡ false → firstOther (drop i word) ≡ 0
+pub other-here : (word : List ℕ) (i : ℕ) → i < length word → small (getD word i 0) ≡ false → firstOther (drop i word) ≡ 0
 unfolding firstOther
 other-here word i h e = rw (drop-cons word i 0 h, e)
 

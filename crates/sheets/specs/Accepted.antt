@@ -1,4 +1,4 @@
--- The groups of a sheet that 01 accepts.
+-- An accepted sheet, and the groups that a sheet holds.
 use Prim.Native.Nat.{ℕ}
 use mathlib.Core.Path.{_≡_}
 use mathlib.Core.List.{List, []}

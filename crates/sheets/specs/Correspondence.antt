@@ -1,5 +1,5 @@
 -- Accepted sheets and bounded lists of groups correspond one to one. `ReadBack` and `WriteBack` have the two ways; here is
--- what follows of them. Assumes nothing.
+-- what follows of them.
 use Prim.Native.Nat.{ℕ, _≤_}
 use mathlib.Core.Path.{_≡_, refl, sym, ap, _∙_}
 use mathlib.Core.Bool.{true}
@@ -8,10 +8,10 @@ use mathlib.Core.List.{List}
 use native.Mathlib.Omega.{arith}
 use Rattle.paper.specs.Groups.{Group}
 use Rattle.sheets.specs.Sheets.{Sheet, refused, accepted, readSheet}
-use Rattle.sheets.specs.Answers.{numberOf, answer, checked}
-use Rattle.sheets.specs.Bytes.{sheetOf, bounded}
+use Rattle.sheets.specs.CheckAnswers.{numberOf, answer, checked}
+use Rattle.sheets.specs.SheetBytes.{sheetOf, bounded}
 use Rattle.paper.specs.Nodes.{nodeCount}
-use Rattle.sheets.specs.NodeLaws.{at-most-1552}
+use Rattle.sheets.specs.NodeBounds.{at-most-1552}
 use Rattle.sheets.specs.ReadBack.{read-back}
 use Rattle.sheets.specs.WriteBack.{write-back}
 

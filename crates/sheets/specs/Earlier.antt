@@ -1,29 +1,22 @@
--- The endings of the rules of a group that were read before, found again in the sheet's bytes. Assumes nothing.
+-- The endings of the rules of a group that were read before, found again in the sheet's bytes.
 use Prim.Native.Nat.{ℕ, zero, suc}
 use mathlib.Core.Path.{_≡_, refl, ap, _∙_}
+use mathlib.Core.Bool.{cond}
 use mathlib.Core.List.{List, [], _∷_, _++_, append-assoc}
-use lib.ListN.{length, getD, take, drop}
-use lib.Seq.{take-append-seam}
+use lib.ListN.{length}
 use Rattle.paper.specs.Groups.{Rule}
-use Rattle.sheets.specs.Records.{after}
-use Rattle.sheets.specs.Bytes.{two, recordOf, replacementOf, ruleBody, rulesBytes}
 use Rattle.paper.specs.Nodes.{tails, tailsOf}
-use Rattle.sheets.specs.ByteLaws.{after-read}
-
--- S1 of the rule with which these bytes start
-unfoldable pub endingIn : List ℕ → List ℕ
-endingIn bytes = take (getD bytes 7 0) (drop 8 bytes)
+use Rattle.records.specs.Framing.{body, after, cut, recordOf}
+use Rattle.records.specs.FramingLaws.{body-read, after-read, whole-read}
+use Rattle.records.specs.Records.{ending}
+use Rattle.records.specs.RecordBytes.{ruleBody}
+use Rattle.records.specs.WrittenRules.{ending-read}
+use Rattle.sheets.specs.SheetBytes.{rulesBytes}
 
 -- the tails of the endings of so many rules, which stand one after the other
 unfoldable pub tailsIn : ℕ → List ℕ → List (List ℕ)
 tailsIn zero bytes = []
-tailsIn (suc count) bytes = tails (endingIn bytes) ++ tailsIn count (after bytes)
-
-pub ending-in : (one : Rule) (more : List ℕ) → endingIn (recordOf 2 (ruleBody one) ++ more) ≡ one .ending
-unfolding endingIn recordOf two ruleBody
-ending-in one more =
-    ap (take (length (one .ending))) (append-assoc (one .ending) (replacementOf (one .action)) more)
-    ∙ take-append-seam (one .ending) (replacementOf (one .action) ++ more)
+tailsIn (suc count) bytes = cond (cut bytes) [] (tails (ending (body bytes)) ++ tailsIn count (after bytes))
 
 pub tails-in : (rules : List Rule) (more : List ℕ) → tailsIn (length rules) (rulesBytes rules ++ more) ≡ tailsOf rules
 unfolding tailsIn tailsOf rulesBytes
@@ -31,8 +24,17 @@ tails-in [] more = refl
 tails-in (one ∷ rules) more =
     rw (
       append-assoc (recordOf 2 (ruleBody one)) (rulesBytes rules) more,
-      ending-in one (rulesBytes rules ++ more),
+      whole-read 2 (ruleBody one) (rulesBytes rules ++ more),
+      body-read 2 (ruleBody one) (rulesBytes rules ++ more),
+      ending-read one,
       after-read 2 (ruleBody one) (rulesBytes rules ++ more),
       tails-in rules more,
     )
     refl
+
+-- the bytes of one rule more
+pub one-more : (earlier : List Rule) (one : Rule) (l : List ℕ)
+    → rulesBytes earlier ++ (recordOf 2 (ruleBody one) ++ l) ≡ rulesBytes (earlier ++ (one ∷ [])) ++ l
+unfolding rulesBytes
+one-more [] one l = simp append-assoc
+one-more (other ∷ earlier) one l = simp append-assoc (ap (λ (k : List ℕ). recordOf 2 (ruleBody other) ++ k) (one-more earlier one l))

@@ -1,36 +1,18 @@
--- Document 01, "The sheet". First the definitions, in 01's order, and what the check answers.
-pub mod Records
+-- Document 01, "The sheet". First the definitions: reading a whole sheet, what a check answers, and accepted sheets.
 pub mod Sheets
-pub mod Answers
+pub mod CheckAnswers
 pub mod Accepted
 -- Then the same from the other side, the bytes of a list of groups, and that the two correspond; 01's samples.
-pub mod Bytes
+pub mod SheetBytes
 pub mod Correspondence
 pub mod ShippedSheet
 pub mod SheetSamples
-pub mod Outcomes
--- Laws of tests and lists
-pub mod Tests
-pub mod Lists
-pub mod Apart
--- Laws of a record, of reading back what was written, and of writing what was read
-pub mod RecordLaws
-pub mod ByteLaws
-pub mod RuleLaws
-pub mod WrittenRules
-pub mod SheetLaws
-pub mod ReadRecords
+-- Laws of reading record by record, of reading back what was written, and of writing what was read
+pub mod SheetSteps
 pub mod ReadBack
 pub mod WriteBack
--- Laws of the node count, and of looking back for it
-pub mod LookBack
-pub mod NodeLaws
-pub mod SharedTails
-pub mod Earlier
-pub mod Finished
--- The check, place by place
-pub mod PlaceLaws
-pub mod CheckLaws
--- Going through an accepted sheet, record by record
+pub mod NodeBounds
+-- The way through a sheet; what the check adds to it, and looking back for the node count
 pub mod SheetPlaces
-pub mod RulePlaces
+pub mod Earlier
+pub mod CheckLaws

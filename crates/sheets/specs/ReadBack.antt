@@ -1,40 +1,28 @@
--- Reading the bytes of a bounded list of groups gives that list. Assumes nothing.
+-- Reading the bytes of a bounded list of groups gives that list.
 use Prim.Native.Nat.{ℕ, zero, suc, _+_, _≤_, _<_}
 use mathlib.Core.Path.{_≡_, refl, ap}
 use mathlib.Core.Bool.{true, false, _&&_}
 use mathlib.Core.List.{List, [], _∷_, _++_, append-assoc}
 use native.Mathlib.Omega.{arith}
 use lib.Dec.{leb, eqb·suc-zero}
-use lib.ListN.{length}
+use lib.ListN.{length, length-append}
 use borrow.Author.Tests.{leb-true, lt-leb, eqb-true}
-use Rattle.paper.specs.Groups.{Rule, Gate, Group}
-use Rattle.sheets.specs.Records.{misplacedGroup, misplacedRule}
-use Rattle.sheets.specs.Sheets.{holding, ruleThen, groupThen, readRest, accepted, whole, readSheet}
-use Rattle.sheets.specs.Bytes.{
-  two,
-  recordOf,
-  numberOfGate,
-  gateBody,
-  ruleBody,
-  rulesBytes,
-  groupsBytes,
-  sheetOf,
-  allowed,
-  allAllowed,
-  groupsAllowed,
-  ruleCount,
-  firstAlways,
-  bounded,
-}
+use Rattle.paper.specs.Groups.{Rule, Gate, numberOfGate, Group}
 use Rattle.paper.specs.TestLaws.{and-left, and-right}
-use Rattle.sheets.specs.ByteLaws.{size-read, kind-read, body-read, after-read, length-read, whole-read}
-use Rattle.sheets.specs.RuleLaws.{gate-read, gate-number, gate-sound}
-use Rattle.sheets.specs.WrittenRules.{rule-read, rule-sound}
-use Rattle.sheets.specs.SheetLaws.{group-step, rule-step, end-step}
+use Rattle.records.specs.Framing.{number, bodyLength, recordLength, after, two, recordOf}
+use Rattle.records.specs.FramingLaws.{kind-read, body-read, after-read, record-length-read, whole-read, some-bytes}
+use Rattle.records.specs.Records.{faultyEnd}
+use Rattle.records.specs.RecordBytes.{gateBody, ruleBody, allowed}
+use Rattle.records.specs.RecordLaws.{GroupHere, RuleHere, EndHere}
+use Rattle.records.specs.GateLaws.{gate-read, gate-number, gate-sound}
+use Rattle.records.specs.WrittenRules.{rule-read, rule-sound}
+use Rattle.sheets.specs.Sheets.{misplacedGroup, misplacedRule, holding, ruleThen, groupThen, readRest, accepted, whole, readSheet}
+use Rattle.sheets.specs.SheetBytes.{rulesBytes, groupsBytes, sheetOf, allAllowed, groupsAllowed, ruleCount, firstAlways, bounded}
+use Rattle.sheets.specs.SheetSteps.{group-step, rule-step, end-step}
 
 -- the rest of a sheet that holds these rules, and then these groups
-unfoldable pub written : List Rule → List Group → List ℕ
-written rules groups = rulesBytes rules ++ (groupsBytes groups ++ recordOf 3 [])
+unfoldable pub restBytes : List Rule → List Group → List ℕ
+restBytes rules groups = rulesBytes rules ++ (groupsBytes groups ++ recordOf 3 [])
 
 misplaced-not : (groups : ℕ) (one : Gate) → groups < 16 → (groups ≡ 0 → numberOfGate one ≡ 0)
     → misplacedGroup groups (gateBody one) ≡ false
@@ -47,38 +35,55 @@ unfolding misplacedRule
 rule-placed zero rules some few = absurd (omega arith)
 rule-placed (suc groups) rules some few = simp (eqb·suc-zero groups, lt-leb 128 rules few)
 
--- a rule's record at the start of the rest
-read-rule : (more groups rules place : ℕ) (one : Rule) (rest : List ℕ) → allowed one ≡ true → 0 < groups → rules < 128
-    → readRest (suc more) groups rules place (recordOf 2 (ruleBody one) ++ rest)
-    ≡ ruleThen one (readRest more groups (suc rules) (place + (4 + length (ruleBody one))) rest)
-read-rule more groups rules place one rest all some few =
-    rw (
-      rule-step more groups rules place (recordOf 2 (ruleBody one) ++ rest) (whole-read 2 (ruleBody one) rest)
-          (kind-read 2 (ruleBody one) rest) (rw (body-read 2 (ruleBody one) rest) (rule-sound one all))
-          (rule-placed groups rules some few),
-      body-read 2 (ruleBody one) rest,
-      after-read 2 (ruleBody one) rest,
-      size-read 2 (ruleBody one) rest,
-      rule-read one,
-    )
-    refl
+-- ## A record at the start of the rest
+module _ (more groups rules place : ℕ) (rest : List ℕ) where
+  read-rule : (one : Rule) → allowed one ≡ true → 0 < groups → rules < 128
+      → readRest (suc more) groups rules place (recordOf 2 (ruleBody one) ++ rest)
+      ≡ ruleThen one (readRest more groups (suc rules) (place + length (recordOf 2 (ruleBody one))) rest)
+  read-rule one all some few =
+      rw (
+        rule-step more groups rules place here (rule-placed groups rules some few),
+        body-read 2 (ruleBody one) rest,
+        after-read 2 (ruleBody one) rest,
+        record-length-read 2 (ruleBody one) rest,
+        rule-read one,
+      )
+      refl
+    where
+      here : RuleHere (recordOf 2 (ruleBody one) ++ rest)
+      here =
+          record {
+            whole = whole-read 2 (ruleBody one) rest;
+            is-rule = kind-read 2 (ruleBody one) rest;
+            sound = rw (body-read 2 (ruleBody one) rest) (rule-sound one all);
+          }
 
--- a group's record at the start of the rest
-read-group : (more groups rules place : ℕ) (one : Gate) (rest : List ℕ) → groups < 16 → (groups ≡ 0 → numberOfGate one ≡ 0)
-    → readRest (suc more) groups rules place (recordOf 1 (gateBody one) ++ rest)
-    ≡ groupThen one (readRest more (suc groups) rules (place + (4 + length (gateBody one))) rest)
-read-group more groups rules place one rest few first =
-    rw (
-      group-step more groups rules place (recordOf 1 (gateBody one) ++ rest) (whole-read 1 (gateBody one) rest)
-          (kind-read 1 (gateBody one) rest) (rw (body-read 1 (gateBody one) rest) (gate-sound one))
-          (rw (body-read 1 (gateBody one) rest) (misplaced-not groups one few first)),
-      body-read 1 (gateBody one) rest,
-      after-read 1 (gateBody one) rest,
-      size-read 1 (gateBody one) rest,
-      gate-read one,
-    )
-    refl
+  read-group : (one : Gate) → groups < 16 → (groups ≡ 0 → numberOfGate one ≡ 0)
+      → readRest (suc more) groups rules place (recordOf 1 (gateBody one) ++ rest)
+      ≡ groupThen one (readRest more (suc groups) rules (place + length (recordOf 1 (gateBody one))) rest)
+  read-group one few first =
+      rw (
+        group-step more groups rules place here (rw (body-read 1 (gateBody one) rest) (misplaced-not groups one few first)),
+        body-read 1 (gateBody one) rest,
+        after-read 1 (gateBody one) rest,
+        record-length-read 1 (gateBody one) rest,
+        gate-read one,
+      )
+      refl
+    where
+      here : GroupHere (recordOf 1 (gateBody one) ++ rest)
+      here =
+          record {
+            whole = whole-read 1 (gateBody one) rest;
+            is-group = kind-read 1 (gateBody one) rest;
+            sound = rw (body-read 1 (gateBody one) rest) (gate-sound one);
+          }
 
+end-here : EndHere (recordOf 3 [])
+unfolding recordOf two faultyEnd bodyLength number after recordLength
+end-here = record { whole = whole-read 3 [] []; is-end = kind-read 3 [] []; sound = refl }
+
+-- ## All of it
 -- groups from here on are read
 abbrev Reads : List Group → Type 0
 Reads groups =
@@ -90,28 +95,31 @@ Reads groups =
     → length (groupsBytes groups ++ recordOf 3 []) ≤ more
     → readRest more before rules place (groupsBytes groups ++ recordOf 3 []) ≡ holding [] groups
 
-positive : (n : ℕ) → 0 < n → n ≡ 0 → ⊥
-positive n some is = omega arith
-
 rules-first : (groups : List Group) → Reads groups → (list : List Rule) (more before rules place : ℕ) → 0 < before
     → before + length groups ≤ 16 → rules + (length list + ruleCount groups) ≤ 128 → allAllowed list ≡ true
-    → groupsAllowed groups ≡ true → length (written list groups) ≤ more
-    → readRest more before rules place (written list groups) ≡ holding list groups
-unfolding written rulesBytes allAllowed
-rules-first groups read [] more before rules place some few fewer all each enough =
-    read more before rules place few (omega arith) each (λ none. absurd (positive before some none)) enough
-rules-first groups read (one ∷ list) zero before rules place some few fewer all each enough =
-    let size = length-read 2 (ruleBody one) (written list groups) in
-    absurd (omega (arith, ap length (append-assoc (recordOf 2 (ruleBody one)) (rulesBytes list) (groupsBytes groups ++ recordOf 3 []))))
-rules-first groups read (one ∷ list) (suc more) before rules place some few fewer all each enough =
-    let size = length-read 2 (ruleBody one) (written list groups) in
+    → groupsAllowed groups ≡ true → length (restBytes list groups) ≤ more
+    → readRest more before rules place (restBytes list groups) ≡ holding list groups
+unfolding restBytes rulesBytes allAllowed
+rules-first groups read [] more before rules place positive few fewer all each enough =
+    read more before rules place few (omega arith) each (λ none. absurd (omega arith)) enough
+rules-first groups read (one ∷ list) zero before rules place positive few fewer all each enough =
+    let some = some-bytes 2 (ruleBody one) in
+    absurd
+    (omega (
+      arith,
+      length-append (recordOf 2 (ruleBody one) ++ rulesBytes list) (groupsBytes groups ++ recordOf 3 []),
+      length-append (recordOf 2 (ruleBody one)) (rulesBytes list),
+    ))
+rules-first groups read (one ∷ list) (suc more) before rules place positive few fewer all each enough =
+    let some = some-bytes 2 (ruleBody one) in
+    let size = length-append (recordOf 2 (ruleBody one)) (restBytes list groups) in
     let joined = append-assoc (recordOf 2 (ruleBody one)) (rulesBytes list) (groupsBytes groups ++ recordOf 3 []) in
     let long = ap length joined in
     rw (
       joined,
-      read-rule more before rules place one (written list groups) (and-left (allowed one) (allAllowed list) all) some
+      read-rule more before rules place (restBytes list groups) one (and-left (allowed one) (allAllowed list) all) positive
           (omega arith),
-      rules-first groups read list more before (suc rules) (place + (4 + length (ruleBody one))) some few (omega arith)
+      rules-first groups read list more before (suc rules) (place + length (recordOf 2 (ruleBody one))) positive few (omega arith)
           (and-right (allowed one) (allAllowed list) all)
           each
           (omega arith),
@@ -119,30 +127,27 @@ rules-first groups read (one ∷ list) (suc more) before rules place some few fe
     refl
 
 group-bytes : (one : Group) (groups : List Group)
-    → groupsBytes (one ∷ groups) ++ recordOf 3 [] ≡ recordOf 1 (gateBody (one .gate)) ++ written (one .rules) groups
-unfolding groupsBytes written
+    → groupsBytes (one ∷ groups) ++ recordOf 3 [] ≡ recordOf 1 (gateBody (one .gate)) ++ restBytes (one .rules) groups
+unfolding groupsBytes restBytes
 group-bytes one groups = simp append-assoc
-
-end-bytes : (more groups rules place : ℕ) → readRest (suc more) groups rules place (recordOf 3 []) ≡ holding [] []
-unfolding recordOf two
-end-bytes more groups rules place =
-    end-step more groups rules place (recordOf 3 []) (whole-read 3 [] []) (kind-read 3 [] []) refl
 
 groups-read : (groups : List Group) → Reads groups
 unfolding groupsBytes groupsAllowed ruleCount recordOf two
 groups-read [] zero before rules place few fewer each first enough = absurd (omega arith)
-groups-read [] (suc more) before rules place few fewer each first enough = end-bytes more before rules place
+groups-read [] (suc more) before rules place few fewer each first enough = end-step more before rules place end-here
 groups-read (one ∷ groups) zero before rules place few fewer each first enough =
-    let size = length-read 1 (gateBody (one .gate)) (written (one .rules) groups) in
+    let some = some-bytes 1 (gateBody (one .gate)) in
+    let size = length-append (recordOf 1 (gateBody (one .gate))) (restBytes (one .rules) groups) in
     absurd (omega (arith, ap length (group-bytes one groups)))
 groups-read (one ∷ groups) (suc more) before rules place few fewer each first enough =
-    let size = length-read 1 (gateBody (one .gate)) (written (one .rules) groups) in
+    let some = some-bytes 1 (gateBody (one .gate)) in
+    let size = length-append (recordOf 1 (gateBody (one .gate))) (restBytes (one .rules) groups) in
     let long = ap length (group-bytes one groups) in
     rw (
       group-bytes one groups,
-      read-group more before rules place (one .gate) (written (one .rules) groups) (omega arith)
+      read-group more before rules place (restBytes (one .rules) groups) (one .gate) (omega arith)
           (λ none. eqb-true (numberOfGate (one .gate)) 0 (first none)),
-      rules-first groups (groups-read groups) (one .rules) more (suc before) rules (place + (4 + length (gateBody (one .gate))))
+      rules-first groups (groups-read groups) (one .rules) more (suc before) rules (place + length (recordOf 1 (gateBody (one .gate))))
           (omega arith)
           (omega arith)
           (omega arith)

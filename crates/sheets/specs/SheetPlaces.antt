@@ -1,51 +1,90 @@
--- Going through an accepted sheet record by record: what the rest of it holds where a record starts. Assumes nothing.
-use Prim.Native.Nat.{ℕ, zero, suc, _+_, _≤_, _<_}
+-- The way through a sheet, record by record: what the rest of it is where a record starts, and how one record carries that on.
+use Prim.Native.Nat.{ℕ, suc, _+_, _≤_, _<_}
 use mathlib.Core.Path.{_≡_, refl, sym, ap, _∙_}
-use mathlib.Core.Bool.{false, cond, false≢true}
+use mathlib.Core.Bool.{true, false, cond, false≢true}
 use mathlib.Core.List.{List, [], _∷_}
 use native.Mathlib.Numerals.{add-one}
 use native.Mathlib.Omega.{arith}
 use lib.Dec.{eqb, ltb}
+use lib.ListN.{length, drop, length-drop}
 use borrow.Author.Tests.{ltb-true, ltb-false}
-use lib.ListN.{length, take, drop, getD, length-drop}
-use lib.Seq.{drop-drop}
 use Rattle.paper.specs.Groups.{Rule, Gate, always, if-opened, Group}
-use Rattle.sheets.specs.Apart.{apart}
-use Rattle.sheets.specs.Records.{bodyLength, body, after, gate, rule, ending, faulty}
-use Rattle.sheets.specs.Sheets.{Rest, faulty-at, holding, ruleThen, groupThen, readRest, accepted, whole, readSheet}
-use Rattle.sheets.specs.Lists.{empty}
-use Rattle.sheets.specs.RecordLaws.{RuleHere, group-here, rule-here, end-here, fault-here}
-use Rattle.sheets.specs.Answers.{recordIn}
-use Rattle.sheets.specs.declared.records.Record.the-variants.{Group as GroupRecord, Rule as RuleRecord, End as EndRecord, Faulty as FaultyRecord}
-use Rattle.sheets.specs.RuleLaws.{sound}
-use Rattle.sheets.specs.SheetLaws.{fault-alone, group-fault, rule-fault, fault-step, group-step, rule-step, end-step, enough, faulty-empty}
-use Rattle.sheets.specs.Earlier.{endingIn}
-use Rattle.sheets.specs.ReadRecords.{few-groups, few-rules}
-use Rattle.sheets.specs.PlaceLaws.{group-size, rule-size, ending-read, group-inside, rule-inside, left}
+use Rattle.paper.specs.ListLaws.{empty}
+use Rattle.paper.specs.TestLaws.{apart, by-test}
+use Rattle.records.specs.Framing.{body, recordLength, after, nextPlace}
+use Rattle.records.specs.FramingLaws.{length-after, beyond}
+use Rattle.records.specs.Records.{gate, rule}
+use Rattle.records.specs.RecordAnswers.{recordAt}
+use Rattle.records.specs.RecordLaws.{EndHere}
+use Rattle.records.specs.RecordPlaces.{GroupAt, RuleFacts, RuleAt, record-here}
+use Rattle.records.specs.declared.Record.the-variants.{Group as GroupRecord, Rule as RuleRecord, End as EndRecord, Faulty as FaultyRecord}
+use Rattle.sheets.specs.Sheets.{misplacedGroup, misplacedRule, faulty, Rest, faulty-at, holding, ruleThen, groupThen}
+use Rattle.sheets.specs.Sheets.{readRest, restAt, Sheet, refused, accepted, whole, readSheet}
+use Rattle.sheets.specs.SheetSteps.{fault-alone, group-fault, rule-fault, few-groups, few-rules, faulty-empty, enough}
+use Rattle.sheets.specs.SheetSteps.{fault-step, group-step, rule-step, end-step}
 use Rattle.sheets.specs.WriteBack.{WrittenAs, not-read, is-read, rest-written}
-use Rattle.paper.specs.TestLaws.{by-test}
-
--- the rest of the sheet from a place on, after so many groups and rules, holds rules up to the next group, and groups
-pub record Holding (sheet : List ℕ) (at groups rules : ℕ) (list : List Rule) (more : List Group) : Type 0 where
-  pub rest-is : readRest (length (drop at sheet)) groups rules at (drop at sheet) ≡ holding list more
 
 -- ## The start
+-- no rule stands before the first group
+abbrev pub startOf : Sheet → Rest
+startOf (refused place) = faulty-at place
+startOf (accepted groups) = holding [] groups
 
-from-start : {found : Rest} (sheet : List ℕ) (groups : List Group) → WrittenAs 0 0 sheet found
-    → whole found ≡ accepted groups → found ≡ holding [] groups
-from-start sheet groups (not-read place) e = apart (cc)
-from-start sheet groups (is-read list found w) e =
-    let none = empty list (w .no-rule-first refl) in
-    let same-groups : found ≡ groups = cc in
-    rw (none, same-groups)
+from-start : {found : Rest} (sheet : List ℕ) → WrittenAs 0 0 sheet found → found ≡ startOf (whole found)
+from-start sheet (not-read place) = refl
+from-start sheet (is-read list groups w) = rw (empty list (w .no-rule-first refl))
+
+pub rest-start : (sheet : List ℕ) → restAt sheet 0 0 0 ≡ startOf (readSheet sheet)
+unfolding readSheet
+rest-start sheet = from-start sheet (rest-written (length sheet) 0 0 0 sheet (omega arith) (omega arith))
+
+-- ## One record
+module _ (sheet : List ℕ) (at groups rules : ℕ) where
+  abbrev rest : List ℕ
+  rest = drop at sheet
+
+  one-record : restAt sheet at groups rules ≡ readRest (suc (length rest)) groups rules at rest
+  one-record = enough (length rest) (suc (length rest)) groups rules at rest (omega arith) (omega arith)
+
+  -- what is left after it, as it is read from the next place on
+  left : (g r : ℕ) {next : ℕ} → next ≡ nextPlace sheet at
+      → readRest (length rest) g r (at + recordLength rest) (after rest) ≡ restAt sheet next g r
+  unfolding nextPlace
+  left g r is =
+      enough (length rest) (length (after rest)) g r (at + recordLength rest) (after rest) (omega (arith, length-after rest)) (omega arith)
+      ∙ rw (is, beyond sheet at)
+
+  pub rest-fault : faulty groups rules rest ≡ true → restAt sheet at groups rules ≡ faulty-at at
+  rest-fault is = one-record ∙ fault-step (length rest) groups rules at rest is
+
+  pub rest-group : {number next : ℕ} → GroupAt sheet at number next → misplacedGroup groups (body rest) ≡ false
+      → restAt sheet at groups rules ≡ groupThen (gate (body rest)) (restAt sheet next (groups + 1) rules)
+  rest-group is placed =
+      rw (add-one groups)
+      (one-record
+      ∙ (group-step (length rest) groups rules at (is .here) placed
+      ∙ ap (groupThen (gate (body rest))) (left (suc groups) rules (is .next-is))))
+
+  pub rest-rule : {c a o start middle next : ℕ} → RuleAt sheet at c a o start middle next → misplacedRule groups rules ≡ false
+      → restAt sheet at groups rules ≡ ruleThen (rule (body rest)) (restAt sheet next groups (rules + 1))
+  rest-rule is placed =
+      rw (add-one rules)
+      (one-record
+      ∙ (rule-step (length rest) groups rules at (is .here) placed
+      ∙ ap (ruleThen (rule (body rest))) (left groups (suc rules) (is .next-is))))
+
+  pub rest-end : EndHere rest → restAt sheet at groups rules ≡ holding [] []
+  rest-end here = one-record ∙ end-step (length rest) groups rules at here
+
+-- ## An accepted sheet
+-- the rest of the sheet from a place on, after so many groups and rules, holds rules up to the next group, and groups
+pub record Holding (sheet : List ℕ) (at groups rules : ℕ) (list : List Rule) (more : List Group) : Type 0 where
+  pub rest-is : restAt sheet at groups rules ≡ holding list more
 
 pub holding-start : (sheet : List ℕ) (groups : List Group) → readSheet sheet ≡ accepted groups → Holding sheet 0 0 0 [] groups
-unfolding readSheet
-holding-start sheet groups e =
-    record { rest-is = from-start sheet groups (rest-written (length sheet) 0 0 0 sheet (omega arith) (omega arith)) e }
+holding-start sheet groups is = record { rest-is = rest-start sheet ∙ ap startOf is }
 
--- ## What stands before the rest
-
+-- what stands before the rest
 record AfterGroup (one : Gate) (found : Rest) (list : List Rule) (more : List Group) : Type 0 where
   rules-then : List Rule
   groups-then : List Group
@@ -71,116 +110,86 @@ after-rule one (holding rules groups) list more e =
     let same-groups : groups ≡ more = cc in
     record { rules-then = rules; rest-then = ap (holding rules) same-groups; rule-first = cc }
 
--- ## One record
-
--- a group stands here, whose record has this number for its gate
+-- a group stands here, whose record has this number for its gate; the next record starts at `next`
 pub record GroupNext {sheet : List ℕ} {at groups rules : ℕ} {list : List Rule} {more : List Group}
-    (here : Holding sheet at groups rules list more) (number : ℕ) : Type 0 where
+    (here : Holding sheet at groups rules list more) (number next : ℕ) : Type 0 where
   pub rules-then : List Rule
   pub groups-then : List Group
   pub gate-then : Gate
   pub gate-is : gate-then ≡ cond (eqb number 0) always if-opened
-  pub holds : Holding sheet (at + 6) (groups + 1) rules rules-then groups-then
+  pub holds : Holding sheet next (groups + 1) rules rules-then groups-then
   pub none-before : list ≡ []
   pub group-first : more ≡ record { gate = gate-then; rules = rules-then } ∷ groups-then
-  pub inside : at + 6 ≤ length sheet
+  pub forward : at < next
+  pub inside : next ≤ length sheet
   pub few : groups < 16
 
--- a rule stands here, whose ending and replacement have so many letters
+-- a rule stands here
 pub record RuleNext {sheet : List ℕ} {at groups rules : ℕ} {list : List Rule} {more : List Group}
-    (here : Holding sheet at groups rules list more) (s1 s2 : ℕ) : Type 0 where
+    (here : Holding sheet at groups rules list more) (c a o start middle next : ℕ) : Type 0 where
   pub one : Rule
+  pub facts : RuleFacts sheet c a o start middle next one
   pub rules-then : List Rule
-  pub is-here : one ≡ rule (body (drop at sheet))
-  pub holds : Holding sheet (at + (8 + s1 + s2)) groups (rules + 1) rules-then more
+  pub holds : Holding sheet next groups (rules + 1) rules-then more
   pub rule-first : list ≡ one ∷ rules-then
-  pub inside : at + (8 + s1 + s2) ≤ length sheet
+  pub forward : at < next
   pub few : rules < 128
-  pub ending-here : take s1 (drop (at + 8) sheet) ≡ one .ending
 
-take-own : (k : ℕ) (list : List ℕ) → take (length (take k list)) list ≡ take k list
-take-own zero list = refl
-take-own (suc k) [] = refl
-take-own (suc k) (x ∷ list) = ap (λ (rest : List ℕ). x ∷ rest) (take-own k list)
-
-module _ {sheet : List ℕ} {at groups rules : ℕ} {list : List Rule} {more : List Group} (here : Holding sheet at groups rules list more) where
-  abbrev rest : List ℕ
-  rest = drop at sheet
-
-  one-record : readRest (suc (length rest)) groups rules at rest ≡ holding list more
-  one-record = enough (suc (length rest)) (length rest) groups rules at rest (omega arith) (omega arith) ∙ here .rest-is
-
-  never-faulty : faulty groups rules rest ≡ false
+module _ {sheet : List ℕ} {at groups rules : ℕ} {list : List Rule} {more : List Group}
+    (here : Holding sheet at groups rules list more) where
+  never-faulty : faulty groups rules (drop at sheet) ≡ false
   never-faulty =
-      by-test (faulty groups rules rest)
-      (λ p.
-      let refused = sym (fault-step (length rest) groups rules at rest p) ∙ one-record in
-      apart (cc))
-      (λ p. p)
+      by-test (faulty groups rules (drop at sheet))
+      (λ wrong. let refused-here = sym (rest-fault sheet at groups rules wrong) ∙ here .rest-is in apart (cc)) (λ right. right)
 
   pub never-over : at < length sheet
   never-over =
-      by-test (ltb at (length sheet)) (λ p. ltb-true at (length sheet) p)
+      by-test (ltb at (length sheet)) (ltb-true at (length sheet))
       (λ p.
       let over = ltb-false at (length sheet) p in
-      let empty : length rest ≤ 0 = omega (arith, length-drop at sheet) in
-      absurd (false≢true (sym never-faulty ∙ faulty-empty groups rules rest empty)))
+      let none : length (drop at sheet) ≤ 0 = omega (arith, length-drop at sheet) in
+      absurd (false≢true (sym never-faulty ∙ faulty-empty groups rules (drop at sheet) none)))
 
-  pub never-alone : recordIn rest ≡ FaultyRecord → ⊥
-  never-alone e = false≢true (sym never-faulty ∙ fault-alone groups rules rest (fault-here rest e))
+  pub never-alone : recordAt sheet at ≡ FaultyRecord → ⊥
+  never-alone e = false≢true (sym never-faulty ∙ fault-alone groups rules (drop at sheet) (record-here sheet at FaultyRecord e))
 
-  pub group-next : {number : ℕ} → recordIn rest ≡ GroupRecord number → GroupNext here number
-  unfolding gate
-  group-next {number} e =
-      let is = group-here rest number e in
-      let placed = sym (group-fault groups rules rest (is .whole) (is .is-group) (is .sound)) ∙ never-faulty in
-      let stepped = sym (group-step (length rest) groups rules at rest (is .whole) (is .is-group) (is .sound) placed) ∙ one-record in
-      let found = after-group (gate (body rest)) (readRest (length rest) (suc groups) rules (at + (4 + bodyLength rest))
-      (after rest)) list more stepped in
-      let size = group-size is in
-      let next : at + 6 ≡ at + (4 + bodyLength rest) = omega arith in
+  pub group-next : {number next : ℕ} → recordAt sheet at ≡ GroupRecord number next → GroupNext here number next
+  group-next {number} {next} e =
+      let is = record-here sheet at (GroupRecord number next) e in
+      let placed = sym (group-fault groups rules (is .here)) ∙ never-faulty in
+      let found =
+      after-group (gate (body (drop at sheet))) (restAt sheet next (groups + 1) rules) list more
+      (sym (rest-group sheet at groups rules is placed) ∙ here .rest-is) in
       record {
         rules-then = found .rules-then;
         groups-then = found .groups-then;
-        gate-then = gate (body rest);
-        gate-is = rw (is .gate-is);
-        holds = record { rest-is = rw (add-one groups) (sym (left sheet at (suc groups) rules (at + 6) next) ∙ found .rest-then) };
+        gate-then = gate (body (drop at sheet));
+        gate-is = is .gate-is;
+        holds = record { rest-is = found .rest-then };
         none-before = found .none-before;
         group-first = found .group-first;
-        inside = group-inside sheet at is;
-        few = few-groups groups (body rest) placed;
+        forward = is .forward;
+        inside = is .inside;
+        few = few-groups groups (body (drop at sheet)) placed;
       }
 
-  ending-slice : {s1 s2 : ℕ} → RuleHere rest s1 s2 → take s1 (drop (at + 8) sheet) ≡ rule (body rest) .ending
-  unfolding endingIn rule
-  ending-slice {s1} found =
-      let read = ending-read found in
-      let long-as : s1 ≡ length (take (getD rest 7 0) (drop 8 rest)) = found .ending-is ∙ ap length (sym read) in
-      let moved : drop 8 rest ≡ drop (at + 8) sheet = drop-drop 8 at sheet in
-      rw (long-as, ← moved) (take-own (getD rest 7 0) (drop 8 rest) ∙ read)
-
-  pub rule-next : {c a o s1 s2 : ℕ} → recordIn rest ≡ RuleRecord c a o s1 s2 → RuleNext here s1 s2
-  rule-next {c} {a} {o} {s1} {s2} e =
-      let is = rule-here rest c a o s1 s2 e in
-      let placed = sym (rule-fault groups rules rest (is .whole) (is .is-rule) (is .sound)) ∙ never-faulty in
-      let stepped = sym (rule-step (length rest) groups rules at rest (is .whole) (is .is-rule) (is .sound) placed) ∙ one-record in
-      let found = after-rule (rule (body rest)) (readRest (length rest) groups (suc rules) (at + (4 + bodyLength rest))
-      (after rest)) list more stepped in
-      let size = rule-size is in
-      let next : at + (8 + s1 + s2) ≡ at + (4 + bodyLength rest) = omega arith in
+  pub rule-next : {c a o start middle next : ℕ} → recordAt sheet at ≡ RuleRecord c a o start middle next
+      → RuleNext here c a o start middle next
+  rule-next {c} {a} {o} {start} {middle} {next} e =
+      let is = record-here sheet at (RuleRecord c a o start middle next) e in
+      let placed = sym (rule-fault groups rules (is .here)) ∙ never-faulty in
+      let found =
+      after-rule (rule (body (drop at sheet))) (restAt sheet next groups (rules + 1)) list more
+      (sym (rest-rule sheet at groups rules is placed) ∙ here .rest-is) in
       record {
-        one = rule (body rest);
+        one = rule (body (drop at sheet));
+        facts = is .facts;
         rules-then = found .rules-then;
-        is-here = refl;
-        holds = record { rest-is = rw (add-one rules) (sym (left sheet at groups (suc rules) (at + (8 + s1 + s2)) next) ∙ found .rest-then) };
+        holds = record { rest-is = found .rest-then };
         rule-first = found .rule-first;
-        inside = rule-inside sheet at is;
+        forward = is .forward;
         few = few-rules groups rules placed;
-        ending-here = ending-slice is;
       }
 
-  pub end-next : recordIn rest ≡ EndRecord → (list ≡ []) × (more ≡ [])
-  end-next e =
-      let is = end-here rest e in
-      let stepped = sym (end-step (length rest) groups rules at rest (is .whole) (is .is-end) (is .last)) ∙ one-record in
-      (cc, cc)
+  pub end-next : recordAt sheet at ≡ EndRecord → (list ≡ []) × (more ≡ [])
+  end-next e = let ended = sym (rest-end sheet at groups rules (record-here sheet at EndRecord e)) ∙ here .rest-is in (cc, cc)

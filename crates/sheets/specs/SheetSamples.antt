@@ -1,4 +1,4 @@
--- Document 01's samples of sheets, each group of them as one statement over a list. Assumes nothing.
+-- Document 01's samples of sheets, each group of them as one statement over a list.
 use Prim.Native.Nat.{ℕ}
 use mathlib.Core.Path.{_≡_, refl}
 use mathlib.Core.List.{List, [], _∷_, map}
@@ -6,36 +6,15 @@ use lib.ListN.{replicate}
 use Rattle.paper.specs.Letters as paper
 use Rattle.paper.specs.Groups.{Rule, Group, always, same}
 use Rattle.paper.specs.Shipped as rules
-use Rattle.sheets.specs.Records.{
-  number,
-  bodyLength,
-  kind,
-  body,
-  after,
-  gateNumber,
-  gate,
-  ending,
-  replacement,
-  rule,
-  outside,
-  cut,
-  faultyGroup,
-  misplacedGroup,
-  faultyNumbers,
-  faultyLetters,
-  faultyAction,
-  faultyRule,
-  misplacedRule,
-  faultyEnd,
-  byKind,
-  faultyAlone,
-  misplaced,
-  faulty,
-}
-use Rattle.sheets.specs.Sheets.{readRest, readSheet}
-use Rattle.sheets.specs.Bytes.{two, recordOf, gateBody, ruleBody, rulesBytes, groupsBytes, sheetOf}
+use Rattle.paper.specs.Words.{allSmall}
+use Rattle.records.specs.Framing.{number, bodyLength, kind, body, recordLength, after, cut, two, recordOf}
+use Rattle.records.specs.Records.{gateNumber, gate, ending, replacement, rule, outside, faultyGroup, faultyNumbers, faultyLetters}
+use Rattle.records.specs.Records.{faultyAction, faultyRule, faultyEnd, byKind, faultyAlone}
+use Rattle.records.specs.RecordBytes.{gateBody, ruleBody}
+use Rattle.sheets.specs.Sheets.{misplacedGroup, misplacedRule, misplaced, faulty, readRest, readSheet}
+use Rattle.sheets.specs.SheetBytes.{rulesBytes, groupsBytes, sheetOf}
 use Rattle.paper.specs.Nodes.{tails, tailsOf, member, distinct, nodeCount}
-use Rattle.sheets.specs.Answers.{checked}
+use Rattle.sheets.specs.CheckAnswers.{checked}
 use Rattle.sheets.specs.declared.Checked.{Checked}
 use Rattle.sheets.specs.declared.Checked.the-variants.{Accepted, Refused}
 
@@ -55,9 +34,9 @@ nineteen-is = refl
 -- of one end record is accepted"; bytes after the end; a cut record; a first group that waits to be opened
 unfoldable pub samples : List (List ℕ × Checked)
 samples =
-    (nineteen, Accepted 2)
+    (nineteen, Accepted 2 1)
     ∷ ([], Refused 0)
-    ∷ (0 ∷ 0 ∷ 3 ∷ 0 ∷ [], Accepted 0)
+    ∷ (0 ∷ 0 ∷ 3 ∷ 0 ∷ [], Accepted 0 0)
     ∷ (0 ∷ 0 ∷ 3 ∷ 0 ∷ 0 ∷ [], Refused 0)
     ∷ (2 ∷ 0 ∷ 1 ∷ 0 ∷ 0 ∷ 0 ∷ 5 ∷ 0 ∷ 2 ∷ 0 ∷ 0 ∷ 0 ∷ 0 ∷ 1 ∷ [], Refused 6)
     ∷ (2 ∷ 0 ∷ 1 ∷ 0 ∷ 1 ∷ 0 ∷ 0 ∷ 0 ∷ 3 ∷ 0 ∷ [], Refused 0)
@@ -67,23 +46,25 @@ samples =
 -- accepted; 13 letters, a 17th and a 129th are refused at their record."
 unfoldable pub bounds : List (List Group × Checked)
 bounds =
-    (group (rules.rule 0 "abcdefghijkl" "" ∷ []) ∷ [], Accepted 13)
+    (group (rules.rule 0 "abcdefghijkl" "" ∷ []) ∷ [], Accepted 13 1)
     ∷ (group (rules.rule 0 "abcdefghijklm" "" ∷ []) ∷ [], Refused 6)
-    ∷ (replicate 16 (group []), Accepted 16)
+    ∷ (replicate 16 (group []), Accepted 16 16)
     ∷ (replicate 17 (group []), Refused 96)
-    ∷ (group (replicate 128 (rules.rule 0 "s" "")) ∷ [], Accepted 2)
+    ∷ (group (replicate 128 (rules.rule 0 "s" "")) ∷ [], Accepted 2 1)
     ∷ (group (replicate 129 (rules.rule 0 "s" "")) ∷ [], Refused 1158)
     ∷ []
 
 pub samples-hold : map (λ s. checked (s .0)) samples ≡ map (λ s. s .1) samples
-unfolding samples nineteen number bodyLength kind body after gateNumber gate ending replacement rule outside cut faultyGroup
+unfolding samples nineteen number bodyLength kind body recordLength after gateNumber gate ending replacement rule allSmall outside cut
+    faultyGroup
     misplacedGroup faultyNumbers faultyLetters faultyAction faultyRule misplacedRule faultyEnd byKind faultyAlone misplaced faulty
     readRest readSheet same tails tailsOf member distinct nodeCount checked
 samples-hold = refl
 
 pub bounds-hold : map (λ s. checked (sheetOf (s .0))) bounds ≡ map (λ s. s .1) bounds
 unfolding bounds group paper.letters rules.rule two recordOf gateBody ruleBody rulesBytes groupsBytes sheetOf number bodyLength
-    kind body after gateNumber gate ending replacement rule outside cut faultyGroup misplacedGroup faultyNumbers faultyLetters
+    kind body recordLength after gateNumber gate ending replacement rule allSmall outside cut faultyGroup misplacedGroup faultyNumbers
+    faultyLetters
     faultyAction faultyRule misplacedRule faultyEnd byKind faultyAlone misplaced faulty readRest readSheet same tails tailsOf
     member distinct nodeCount checked
 bounds-hold = refl

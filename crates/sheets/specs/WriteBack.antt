@@ -1,4 +1,4 @@
--- An accepted sheet is the bytes of the list of groups that it reads as, and that list is bounded. Assumes nothing.
+-- An accepted sheet is the bytes of the list of groups that it reads as, and that list is bounded.
 use Prim.Native.Nat.{ℕ, zero, suc, _+_, _≤_}
 use mathlib.Core.Path.{_≡_, refl, ap, _∙_}
 use mathlib.Core.Bool.{true, false}
@@ -7,72 +7,24 @@ use native.Mathlib.Omega.{arith}
 use lib.ListN.{length}
 use borrow.Author.Tests.{le-leb}
 use Rattle.paper.specs.Groups.{Rule, Group}
-use Rattle.sheets.specs.Apart.{apart}
-use Rattle.sheets.specs.Records.{
-  bodyLength,
-  kind,
-  body,
-  after,
-  gate,
-  rule,
-  cut,
-  faultyGroup,
-  misplacedGroup,
-  faultyRule,
-  misplacedRule,
-}
-use Rattle.sheets.specs.Sheets.{
-  Rest,
-  faulty-at,
-  holding,
-  ruleThen,
-  groupThen,
-  readRest,
-  accepted,
-  whole,
-  readSheet,
-}
-use Rattle.sheets.specs.Bytes.{
-  recordOf,
-  gateBody,
-  ruleBody,
-  rulesBytes,
-  groupsBytes,
-  sheetOf,
-  allAllowed,
-  groupsAllowed,
-  ruleCount,
-  firstAlways,
-  bounded,
-}
-use Rattle.sheets.specs.Lists.{empty}
-use Rattle.sheets.specs.RuleLaws.{rule-allowed}
-use Rattle.sheets.specs.ReadBack.{written}
-use Rattle.sheets.specs.ReadRecords.{
-  group-record,
-  rule-record,
-  end-record,
-  few-groups,
-  first-gate,
-  some-group,
-  few-rules,
-}
-use Rattle.sheets.specs.SheetLaws.{
-  fault-step,
-  group-step,
-  rule-step,
-  end-step,
-  Found,
-  found-fault,
-  found-group,
-  found-rule,
-  found-end,
-  look,
-}
+use Rattle.paper.specs.ListLaws.{empty}
+use Rattle.paper.specs.TestLaws.{apart}
+use Rattle.records.specs.Framing.{body, recordLength, after, recordOf}
+use Rattle.records.specs.Records.{gate, rule}
+use Rattle.records.specs.RecordBytes.{gateBody, ruleBody}
+use Rattle.records.specs.RecordLaws.{GroupHere, RuleHere}
+use Rattle.records.specs.RuleLaws.{rule-allowed}
+use Rattle.records.specs.ReadRecords.{group-record, rule-record, end-record}
+use Rattle.sheets.specs.Sheets.{misplacedGroup, misplacedRule, Rest, faulty-at, holding, ruleThen, groupThen, readRest}
+use Rattle.sheets.specs.Sheets.{accepted, whole, readSheet}
+use Rattle.sheets.specs.SheetBytes.{rulesBytes, groupsBytes, sheetOf, allAllowed, groupsAllowed, ruleCount, firstAlways, bounded}
+use Rattle.sheets.specs.SheetSteps.{few-groups, first-gate, some-group, few-rules, fault-step, group-step, rule-step, end-step}
+use Rattle.sheets.specs.SheetSteps.{Found, found-fault, found-group, found-rule, found-end, look}
+use Rattle.sheets.specs.ReadBack.{restBytes}
 
 -- the rest of a sheet holds these rules and groups, within the bounds that so many groups and rules before it leave
 pub record Written (before rules : ℕ) (rest : List ℕ) (list : List Rule) (groups : List Group) : Type 0 where
-  pub bytes : rest ≡ written list groups
+  pub bytes : rest ≡ restBytes list groups
   pub at-most-16 : before + length groups ≤ 16
   pub at-most-128 : rules + (length list + ruleCount groups) ≤ 128
   pub each-rule : allAllowed list ≡ true
@@ -85,40 +37,40 @@ pub data WrittenAs (before rules : ℕ) (rest : List ℕ) : Rest → Type 0 wher
   is-read : (list : List Rule) (groups : List Group) → Written before rules rest list groups
       → WrittenAs before rules rest (holding list groups)
 
-module _ (before rules : ℕ) (rest : List ℕ) (whole-record : cut rest ≡ false) where
-  with-group : {found : Rest} → kind rest ≡ 1 → faultyGroup (body rest) ≡ false → misplacedGroup before (body rest) ≡ false
+module _ (before rules : ℕ) {rest : List ℕ} where
+  with-group : {found : Rest} → GroupHere rest → misplacedGroup before (body rest) ≡ false
       → WrittenAs (suc before) rules (after rest) found
       → WrittenAs before rules rest (groupThen (gate (body rest)) found)
-  unfolding written groupsBytes rulesBytes ruleCount groupsAllowed allAllowed
-  with-group is sound-group placed (not-read place) = not-read place
-  with-group is sound-group placed (is-read list groups w) =
+  unfolding restBytes groupsBytes rulesBytes ruleCount groupsAllowed allAllowed
+  with-group here placed (not-read place) = not-read place
+  with-group here placed (is-read list groups w) =
       is-read [] (record { gate = gate (body rest); rules = list } ∷ groups)
       (record {
         bytes =
-            group-record rest whole-record is sound-group
+            group-record here
             ∙ (ap (λ (l : List ℕ). recordOf 1 (gateBody (gate (body rest))) ++ l) (w .bytes) ∙ simp append-assoc);
         at-most-16 = let h = w .at-most-16 in omega arith;
         at-most-128 = let h = w .at-most-128 in omega arith;
         each-rule = refl;
         each-group = simp (w .each-rule, w .each-group);
         no-rule-first = λ none. refl;
-        first-always = λ none. first-gate before (body rest) none sound-group placed;
+        first-always = λ none. first-gate before (body rest) none (here .sound) placed;
       })
 
-  with-rule : {found : Rest} → kind rest ≡ 2 → faultyRule (body rest) ≡ false → misplacedRule before rules ≡ false
+  with-rule : {found : Rest} → RuleHere rest → misplacedRule before rules ≡ false
       → WrittenAs before (suc rules) (after rest) found
       → WrittenAs before rules rest (ruleThen (rule (body rest)) found)
-  unfolding written groupsBytes rulesBytes ruleCount groupsAllowed allAllowed
-  with-rule is none placed (not-read place) = not-read place
-  with-rule is none placed (is-read list groups w) =
+  unfolding restBytes groupsBytes rulesBytes ruleCount groupsAllowed allAllowed
+  with-rule here placed (not-read place) = not-read place
+  with-rule here placed (is-read list groups w) =
       is-read (rule (body rest) ∷ list) groups
       (record {
         bytes =
-            rule-record rest whole-record is none
+            rule-record here
             ∙ (ap (λ (l : List ℕ). recordOf 2 (ruleBody (rule (body rest))) ++ l) (w .bytes) ∙ simp append-assoc);
         at-most-16 = w .at-most-16;
         at-most-128 = let h = w .at-most-128 in omega arith;
-        each-rule = simp (rule-allowed (body rest) none, w .each-rule);
+        each-rule = simp (rule-allowed (body rest) (here .sound), w .each-rule);
         each-group = w .each-group;
         no-rule-first = λ first. absurd (some-group before rules placed first);
         first-always = λ first. absurd (some-group before rules placed first);
@@ -128,23 +80,23 @@ module _ (more : ℕ) (further : (before rules place : ℕ) (rest : List ℕ) �
     → WrittenAs before rules rest (readRest more before rules place rest)) where
   with-record : (before rules place : ℕ) (rest : List ℕ) → before ≤ 16 → rules ≤ 128 → Found before rules rest
       → WrittenAs before rules rest (readRest (suc more) before rules place rest)
-  unfolding written groupsBytes rulesBytes ruleCount groupsAllowed allAllowed
+  unfolding restBytes groupsBytes rulesBytes ruleCount groupsAllowed allAllowed
   with-record before rules place rest few fewer (found-fault is) = rw (fault-step more before rules place rest is) (not-read place)
-  with-record before rules place rest few fewer (found-group whole-record is sound-group placed) =
+  with-record before rules place rest few fewer (found-group here placed) =
       let h = few-groups before (body rest) placed in
-      rw (group-step more before rules place rest whole-record is sound-group placed)
-      (with-group before rules rest whole-record is sound-group placed
-      (further (suc before) rules (place + (4 + bodyLength rest)) (after rest) h fewer))
-  with-record before rules place rest few fewer (found-rule whole-record is none placed) =
+      rw (group-step more before rules place here placed)
+      (with-group before rules here placed
+      (further (suc before) rules (place + recordLength rest) (after rest) h fewer))
+  with-record before rules place rest few fewer (found-rule here placed) =
       let h = few-rules before rules placed in
-      rw (rule-step more before rules place rest whole-record is none placed)
-      (with-rule before rules rest whole-record is none placed
-      (further before (suc rules) (place + (4 + bodyLength rest)) (after rest) few h))
-  with-record before rules place rest few fewer (found-end whole-record is last) =
-      rw (end-step more before rules place rest whole-record is last)
+      rw (rule-step more before rules place here placed)
+      (with-rule before rules here placed
+      (further before (suc rules) (place + recordLength rest) (after rest) few h))
+  with-record before rules place rest few fewer (found-end here) =
+      rw (end-step more before rules place here)
       (is-read [] []
       (record {
-        bytes = end-record rest whole-record is last;
+        bytes = end-record here;
         at-most-16 = omega arith;
         at-most-128 = omega arith;
         each-rule = refl;
@@ -173,8 +125,8 @@ list-bounded list groups sheet w =
     )
 
 list-bytes : (list : List Rule) (groups : List Group) (sheet : List ℕ) → Written 0 0 sheet list groups → sheet ≡ sheetOf groups
-unfolding sheetOf written rulesBytes
-list-bytes list groups sheet w = w .bytes ∙ ap (λ (l : List Rule). written l groups) (empty list (w .no-rule-first refl))
+unfolding sheetOf restBytes rulesBytes
+list-bytes list groups sheet w = w .bytes ∙ ap (λ (l : List Rule). restBytes l groups) (empty list (w .no-rule-first refl))
 
 all-written : {found : Rest} (sheet : List ℕ) (groups : List Group) → WrittenAs 0 0 sheet found → whole found ≡ accepted groups
     → (sheet ≡ sheetOf groups) × (bounded groups ≡ true)

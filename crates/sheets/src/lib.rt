@@ -1,22 +1,19 @@
-// Rule sheets: the record at a place, the check of a whole sheet, and the reader that holds the caller's sheet and its
-// place.
+// Rule sheets: the check of a whole sheet.
 ghost use mathlib.Core.Path.{_≡_};
 ghost use mathlib.Core.Bool.{_&&_, _||_};
 ghost use lib.Dec.{eqb, leb};
-ghost use Rattle.sheets.specs.Answers.{numberOf, valueOf, checked};
+ghost use Rattle.sheets.specs.CheckAnswers.{numberOf, valueOf, checked};
 
 mod nodes;
-mod numbers;
-pub mod reader;
-pub mod records;
 
 use nodes::longest_shared;
-use reader::draw;
 use records::Record;
+use records::reader::draw;
 
-// What a check answers: the nodes that the sheet's table needs, or the place where its first faulty record starts.
+// What a check answers: the nodes that the sheet's table needs, and how many groups it has; or the place where its first faulty
+// record starts.
 pub enum Checked {
-    Accepted(usize),
+    Accepted { nodes: usize, groups: usize },
     Refused(usize),
 }
 
@@ -48,33 +45,34 @@ pub fn check(sheet: &[u8]) -> Checked
     while at < sheet.len() {
         let found = draw(sheet, at);
         match found {
-            Record::Group(gate) => {
+            Record::Group { gate, next } => {
                 if misplaced_group(groups, gate) {
                     return Checked::Refused(at);
                 }
                 groups += 1;
                 nodes += 1;
-                at += 6;
-                first = at;
+                at = next;
+                first = next;
                 count = 0;
             }
             Record::Rule {
                 condition: _,
                 action: _,
                 opens: _,
-                ending,
-                replacement,
+                start,
+                middle,
+                next,
             } => {
                 if misplaced_rule(groups, rules) {
                     return Checked::Refused(at);
                 }
-                let shared = longest_shared(sheet, first, count, at);
+                let shared = longest_shared(sheet, first, count, &sheet[start..middle]);
                 rules += 1;
-                nodes += ending - shared;
-                at += 8 + ending + replacement;
+                nodes += middle - start - shared;
+                at = next;
                 count += 1;
             }
-            Record::End => return Checked::Accepted(nodes),
+            Record::End => return Checked::Accepted { nodes, groups },
             Record::Faulty => return Checked::Refused(at),
         }
     }
@@ -86,7 +84,10 @@ pub fn number(answer: Checked) -> u8
     ensures { λ r. ⌜ r ≡ numberOf answer ⌝ }
 {
     match answer {
-        Checked::Accepted(_) => 0,
+        Checked::Accepted {
+            nodes: _,
+            groups: _,
+        } => 0,
         Checked::Refused(_) => 3,
     }
 }
@@ -95,7 +96,7 @@ pub fn value(answer: Checked) -> usize
     ensures { λ r. ⌜ r ≡ valueOf answer ⌝ }
 {
     match answer {
-        Checked::Accepted(nodes) => nodes,
+        Checked::Accepted { nodes, groups: _ } => nodes,
         Checked::Refused(place) => place,
     }
 }

@@ -3,12 +3,12 @@
 ghost use mathlib.Core.Path.{_≡_};
 ghost use Prim.Native.Nat.{max};
 ghost use lib.ListN.{drop};
-ghost use Rattle.sheets.specs.Records.{after};
 ghost use Rattle.paper.specs.Nodes.{tails};
-ghost use Rattle.sheets.specs.LookBack.{shared};
-ghost use Rattle.sheets.specs.Earlier.{endingIn, tailsIn};
-use crate::numbers::pair;
-use crate::numbers::wide;
+ghost use Rattle.paper.specs.LookBack.{shared};
+ghost use Rattle.sheets.specs.Earlier.{tailsIn};
+use records::framing::Frame;
+use records::framing::frame_at;
+use records::rules::ending_in;
 
 // How long the longest tail is that two endings share.
 fn shared_tail(one: &[u8], other: &[u8]) -> usize
@@ -48,53 +48,27 @@ fn longer(one: &[u8], other: &[u8], least: usize) -> usize
     all
 }
 
-// S1 of the rule that starts at this place.
-fn ending_at(sheet: &[u8], at: usize) -> &[u8]
-    ensures { λ r. ⌜ now r ≡ endingIn (drop at (now (sheet .entry))) ⌝ }
+// How long the longest tail is that an ending shares with those of the `count` rules that stand from `first` on.
+pub(crate) fn longest_shared(sheet: &[u8], first: usize, count: usize, ending: &[u8]) -> usize
+    ensures { λ r. ⌜ r ≡ shared (now (ending .entry)) (tailsIn count (drop first (now (sheet .entry)))) ⌝ }
 {
-    let len = sheet.len();
-    if len < at {
-        return &sheet[..0];
-    }
-    if len - at < 8 {
-        return &sheet[..0];
-    }
-    let n = wide(sheet[at + 7]);
-    let start = at + 8;
-    if len - start < n {
-        return &sheet[start..];
-    }
-    let end = start + n;
-    &sheet[start..end]
-}
-
-// Where the record after the one at this place starts.
-fn next_place(sheet: &[u8], at: usize) -> usize
-    ensures { λ r. ⌜ drop r (now (sheet .entry)) ≡ after (drop at (now (sheet .entry))) ⌝ }
-{
-    let len = sheet.len();
-    if len < at {
-        return len;
-    }
-    if len - at < 4 {
-        return len;
-    }
-    let size = pair(sheet[at], sheet[at + 1]);
-    at + 4 + size
-}
-
-// How long the longest tail is that the rule at `at` shares with one of the `count` rules that stand from `first` on.
-pub(crate) fn longest_shared(sheet: &[u8], first: usize, count: usize, at: usize) -> usize
-    ensures { λ r. ⌜ r ≡ shared (endingIn (drop at (now (sheet .entry)))) (tailsIn count (drop first (now (sheet .entry)))) ⌝ }
-{
-    let ending = ending_at(sheet, at);
     let mut place = first;
     let mut left = count;
     let mut longest = 0;
     while left > 0 {
-        longest = longer(ending, ending_at(sheet, place), longest);
-        place = next_place(sheet, place);
-        left -= 1;
+        let frame = frame_at(sheet, place);
+        match frame {
+            Frame::Cut => return longest,
+            Frame::Whole {
+                kind: _,
+                body,
+                next,
+            } => {
+                longest = longer(ending, ending_in(&sheet[body..next]), longest);
+                place = next;
+                left -= 1;
+            }
+        }
     }
     longest
 }

@@ -1,14 +1,14 @@
 // The shipped rules as a sheet, and the table of that sheet, as constants.
 ghost use mathlib.Core.Path.{_≡_};
 ghost use Rattle.paper.specs.Shipped.{shipped};
-ghost use Rattle.sheets.specs.Bytes.{sheetOf};
+ghost use Rattle.sheets.specs.SheetBytes.{sheetOf};
 ghost use Rattle.siblings.specs.Layout.{tableOf};
 
 pub mod nodes;
-pub mod records;
+pub mod rules;
 
 use nodes::TABLE;
-use records::SHEET;
+use rules::SHEET;
 
 // The shipped sheet, whole.
 pub fn sheet() -> [u8; 861]

@@ -1,5 +1,5 @@
--- Going through a sheet while its groups are counted, and while its rules are laid out. Assumes nothing.
-use Prim.Native.Nat.{ℕ, zero, suc, _+_, _*_, _≤_, _<_}
+-- Going through a sheet while its rules are laid out.
+use Prim.Native.Nat.{ℕ, zero, suc, _+_, _*_, _-_, _≤_, _<_}
 use mathlib.Core.Path.{_≡_, refl, ap, subst, _∙_}
 use mathlib.Core.List.{List, [], _∷_, _++_, map}
 use native.Mathlib.Numerals.{add-one}
@@ -9,59 +9,15 @@ use lib.ListN.{length, take, drop, replicate}
 use Rattle.paper.specs.Letters.{inward}
 use Rattle.paper.specs.Groups.{Rule, Gate, Group}
 use Rattle.paper.specs.Nodes.{nodeCount}
-use Rattle.sheets.specs.NodeLaws.{at-most-1552}
+use Rattle.records.specs.RecordAnswers.{recordAt}
+use Rattle.records.specs.declared.Record.the-variants.{End as EndRecord}
+use Rattle.sheets.specs.NodeBounds.{at-most-1552}
 use Rattle.sheets.specs.WriteBack.{write-back}
-use Rattle.sheets.specs.Answers.{recordIn}
-use Rattle.sheets.specs.declared.records.Record.the-variants.{End as EndRecord}
 use Rattle.siblings.specs.Layout.{Node, node, ends, tableOf}
 use Rattle.siblings.specs.Laying.{laying, enter, note}
 use Rattle.sheets.specs.Accepted.{groupsOf, Accepted}
 use Rattle.sheets.specs.SheetPlaces.{Holding, holding-start, GroupNext, RuleNext, end-next}
 use Rattle.siblings.specs.TranslationSteps.{Midway, midway-start, midway-end, next-rule}
-
--- ## Counting the groups
-
-pub record Counting (sheet : List ℕ) (at count : ℕ) : Type 0 where
-  pub rules : ℕ
-  pub list : List Rule
-  pub more : List Group
-  pub holds : Holding sheet at count rules list more
-  pub total : count + length more ≡ length (groupsOf sheet)
-
-pub counting-start : (sheet : List ℕ) → Accepted sheet → Counting sheet 0 0
-counting-start sheet is =
-    record {
-      rules = 0;
-      list = [];
-      more = groupsOf sheet;
-      holds = holding-start sheet
-          (groupsOf sheet) is;
-      total = zero-add (length (groupsOf sheet));
-    }
-
-module _ {sheet : List ℕ} {at count : ℕ} (state : Counting sheet at count) where
-  pub counting-group : {number : ℕ} → GroupNext (state .holds) number → Counting sheet (at + 6) (count + 1)
-  counting-group found =
-      let shorter = ap length (found .group-first) in
-      record {
-        rules = state .rules;
-        list = found .rules-then;
-        more = found .groups-then;
-        holds = found .holds;
-        total = omega (arith, state .total, shorter);
-      }
-
-  pub counting-rule : {s1 s2 : ℕ} → RuleNext (state .holds) s1 s2 → Counting sheet (at + (8 + s1 + s2)) count
-  counting-rule found =
-      record { rules = state .rules + 1; list = found .rules-then; more = state .more; holds = found .holds; total = state .total }
-
-  pub counting-end : recordIn (drop at sheet) ≡ EndRecord → count ≡ length (groupsOf sheet)
-  counting-end here =
-      let over = end-next (state .holds) here in
-      let none = ap length (over .1) in
-      omega (arith, state .total, none)
-
--- ## Laying the rules out
 
 -- the node where each rule ends that is left: those of the group at hand, then those of the groups after it
 abbrev endsLeft : ℕ → ℕ → List Rule → List Group → List Node
@@ -89,8 +45,8 @@ pub record Going (sheet table : List ℕ) (at root next rules count : ℕ) : Typ
   pub midway : Midway (groupsOf sheet) table count rules (endsLeft root next list more)
   pub room : length table ≡ 4 * nodeCount (groupsOf sheet)
 
-start-with : (all : List Group) (table : List ℕ) (count : ℕ) → 0 < count → count ≡ length all → take (4 * count) table ≡ replicate (4 * count) 0
-    → 4 * count ≤ length table → Midway all table count 0 (ends 0 all)
+start-with : (all : List Group) (table : List ℕ) (count : ℕ) → 0 < count → count ≡ length all
+    → take (4 * count) table ≡ replicate (4 * count) 0 → 4 * count ≤ length table → Midway all table count 0 (ends 0 all)
 start-with [] table count h c zeros fits = absurd (omega arith)
 start-with (group ∷ groups) table count h c zeros fits = midway-start group groups table count c zeros fits
 
@@ -109,7 +65,7 @@ going-start sheet table count is h c zeros fits room =
     }
 
 module _ {sheet table : List ℕ} {at root next rules count : ℕ} (state : Going sheet table at root next rules count) where
-  pub going-group : {number : ℕ} → GroupNext (state .holds) number → Going sheet table (at + 6) next (next + 1) rules count
+  pub going-group : {number after : ℕ} → GroupNext (state .holds) number after → Going sheet table after next (next + 1) rules count
   going-group found =
       let shorter = ap length (found .group-first) in
       let left =
@@ -125,17 +81,19 @@ module _ {sheet table : List ℕ} {at root next rules count : ℕ} (state : Goin
         room = state .room;
       }
 
-  pub going-rule : {s1 s2 : ℕ} → RuleNext (state .holds) s1 s2 → (table-then : List ℕ) (count-then : ℕ)
-      → table-then ≡ note (rules + 1) (enter (inward (take s1 (drop (at + 8) sheet))) (laying table count root)) .table
-      → count-then ≡ enter (inward (take s1 (drop (at + 8) sheet))) (laying table count root) .count
-      → Going sheet table-then (at + (8 + s1 + s2)) root next (rules + 1) count-then
+  pub going-rule : {c a o start middle after : ℕ} → RuleNext (state .holds) c a o start middle after
+      → (table-then : List ℕ) (count-then : ℕ)
+      → table-then ≡ note (rules + 1) (enter (inward (take (middle - start) (drop start sheet))) (laying table count root)) .table
+      → count-then ≡ enter (inward (take (middle - start) (drop start sheet))) (laying table count root) .count
+      → Going sheet table-then after root next (rules + 1) count-then
   going-rule found table-then count-then t c =
       let left = ends-rule root next (state .list) (state .more) (found .one) (found .rules-then) (found .rule-first) in
       let midway = subst (Midway (groupsOf sheet) table count rules) left (state .midway) in
+      let same-table = rw (← found .facts .ending-is, add-one rules) at t in
+      let same-count = rw (← found .facts .ending-is) at c in
       let stepped =
-      next-rule (groupsOf sheet) table count rules root (found .one .ending) (endsLeft root next (found .rules-then)
-      (state .more)) midway (state .root-in)
-      (state .room) table-then count-then (rules + 1) (rw (found .ending-here, add-one rules) at t) (rw (found .ending-here) at c) (add-one rules) in
+      next-rule (groupsOf sheet) table count rules root (found .one .ending) (endsLeft root next (found .rules-then) (state .more))
+      midway (state .root-in) (state .room) table-then count-then (rules + 1) same-table same-count (add-one rules) in
       record {
         list = found .rules-then;
         more = state .more;
@@ -146,7 +104,7 @@ module _ {sheet table : List ℕ} {at root next rules count : ℕ} (state : Goin
         room = stepped .1 ∙ state .room;
       }
 
-  pub going-end : recordIn (drop at sheet) ≡ EndRecord → table ≡ tableOf (groupsOf sheet)
+  pub going-end : recordAt sheet at ≡ EndRecord → table ≡ tableOf (groupsOf sheet)
   going-end here =
       let over = end-next (state .holds) here in
       midway-end (groupsOf sheet) table count rules (endsLeft root next (state .list) (state .more))

@@ -7,7 +7,6 @@ mod laying_out;
 mod layings;
 pub mod nodes;
 
-use laying_out::group_count;
 use laying_out::lay;
 use sheets::Checked;
 
@@ -26,12 +25,11 @@ pub fn translate(sheet: &[u8], table: &mut [u16]) -> Translated
     let found = sheets::check(sheet);
     match found {
         Checked::Refused(place) => Translated::Refused(place),
-        Checked::Accepted(nodes) => {
+        Checked::Accepted { nodes, groups } => {
             let end = 4 * nodes;
             if table.len() < end {
                 return Translated::Short;
             }
-            let groups = group_count(sheet);
             if groups != 0 {
                 lay(sheet, &mut table[..end], groups);
             }

@@ -15,7 +15,7 @@ use Rattle.paper.specs.Groups.{replace, single-letter, Rule, before, act, opens
 use Rattle.paper.specs.Groups.{result as resultOf}
 use Rattle.walks.specs.Walk.{Nodes, deepest, walked, walkGroup}
 use Rattle.walks.specs.PickLaws.{walked-picks}
-use Rattle.sheets.specs.RulePlaces.{RuleFacts}
+use Rattle.records.specs.RecordPlaces.{RuleFacts}
 use Rattle.tables.specs.TryLaws.{picked, Some}
 
 -- what a step leaves: whether the group's result fits the place, and if so the letters that stand first in it
@@ -25,13 +25,16 @@ pub record Stepped (step : Step) (place : ℕ) (after : List ℕ) (size : ℕ) (
 
 -- what a rule leaves that was obeyed, whose record in the sheet has these numbers: less by one letter, more by its letters, or a
 -- result that does not fit the place
-pub record Obeyed (step : Step) (sheet place : List ℕ) (size at a o s1 s2 : ℕ) : Type 0 where
-  pub inside : at + 8 + s1 + s2 ≤ length sheet
-  pub single : (a ≡ 0 → ⊥) → Stepped step (length place) place (size - s1 - 1) (eqb o 1) true
-  pub replaced : (after : List ℕ) → a ≡ 0 → s2 ≤ length place - (size - s1)
-      → after ≡ putAt place (size - s1) (take s2 (drop (at + 8 + s1) sheet))
-      → Stepped step (length place) after (size - s1 + s2) (eqb o 1) true
-  pub outgrown : (opened : Bool) → a ≡ 0 → length place - (size - s1) < s2 → Stepped step (length place) place size opened false
+pub record Obeyed (step : Step) (sheet place : List ℕ) (size a o start middle next : ℕ) : Type 0 where
+  pub ending-ahead : start ≤ middle
+  pub replacement-ahead : middle ≤ next
+  pub inside : next ≤ length sheet
+  pub single : (a ≡ 0 → ⊥) → Stepped step (length place) place (size - (middle - start) - 1) (eqb o 1) true
+  pub replaced : (after : List ℕ) → a ≡ 0 → next - middle ≤ length place - (size - (middle - start))
+      → after ≡ putAt place (size - (middle - start)) (take (next - middle) (drop middle sheet))
+      → Stepped step (length place) after (size - (middle - start) + (next - middle)) (eqb o 1) true
+  pub outgrown : (opened : Bool) → a ≡ 0 → length place - (size - (middle - start)) < next - middle
+      → Stepped step (length place) place size opened false
 
 module _ (nodes : Nodes) (root number : ℕ) (place : List ℕ) (size : ℕ) (rules : List Rule) (found : ℕ) (within : size ≤ length place)
     (deep : found ≡ deepest nodes root (inward (take size place))) where
@@ -53,25 +56,29 @@ module _ (nodes : Nodes) (root number : ℕ) (place : List ℕ) (size : ℕ) (ru
   pub step-none : found ≡ 0 → Stepped step (length place) place size false true
   step-none e = unchanged (walked-picks nodes root number word rules found deep ∙ rw (eq-eqb found 0 e))
 
-  pub step-turned-down :
-      (found ≡ 0 → ⊥) → picked nodes root found word number rules ≡ none → Stepped step (length place) place size false true
+  pub step-turned-down : (found ≡ 0 → ⊥) → picked nodes root found word number rules ≡ none
+      → Stepped step (length place) place size false true
   unfolding picked
   step-turned-down e p = unchanged (walked-picks nodes root number word rules found deep ∙ rw (ne-eqb found 0 e, p))
 
   -- a rule is obeyed
-  module _ (sheet : List ℕ) (at c a o s1 s2 : ℕ) (one : Rule) (facts : RuleFacts sheet at c a o s1 s2 one) (deeper : found ≡ 0 → ⊥)
+  module _ (sheet : List ℕ) (c a o start middle next : ℕ) (one : Rule) (facts : RuleFacts sheet c a o start middle next one)
+      (deeper : found ≡ 0 → ⊥)
       (is-picked : picked nodes root found word number rules ≡ some one) where
     abbrev part : ℕ
-    part = size - s1
+    part = size - (middle - start)
+
+    abbrev added : ℕ
+    added = next - middle
 
     abbrev letters-new : List ℕ
-    letters-new = take s2 (drop (at + 8 + s1) sheet)
+    letters-new = take added (drop middle sheet)
 
     before-it : before word (one .ending) ≡ take part place
     unfolding before
     before-it =
-        let left : length word - length (one .ending) ≡ size - s1 = omega (arith, long, facts .ending-long) in
-        rw left (take-take (size - s1) size place (omega arith))
+        let left : length word - length (one .ending) ≡ part = omega (arith, long, facts .ending-long) in
+        rw left (take-take part size place (omega arith))
 
     obeyed-it : walked nodes root number word rules ≡ some one
     unfolding picked
@@ -97,8 +104,8 @@ module _ (nodes : Nodes) (root number : ℕ) (place : List ℕ) (size : ℕ) (ru
         ≡ take (part - 1) place = rw (single, left) (take-take (part - 1) part place (omega arith)) in
         rw (given, letters-left)
         (record {
-          fits-is = sym (le-leb (length (take (part - 1) place)) (length place)
-              (omega (arith, length-take-le (part - 1) place (omega arith))));
+          fits-is =
+              sym (le-leb (length (take (part - 1) place)) (length place) (omega (arith, length-take-le (part - 1) place (omega arith))));
           letters = λ t. (refl, omega arith, opening);
         })
 
@@ -106,16 +113,17 @@ module _ (nodes : Nodes) (root number : ℕ) (place : List ℕ) (size : ℕ) (ru
     unfolding act
     replaced e = let action : one .action ≡ replace letters-new = facts .action-is ∙ rw (eq-eqb a 0 e) in rw action
 
-    letters-long : length letters-new ≡ s2
-    letters-long = length-take-le s2 (drop (at + 8 + s1) sheet) (omega (arith, length-drop (at + 8 + s1) sheet, facts .inside))
+    letters-long : length letters-new ≡ added
+    letters-long =
+        length-take-le added (drop middle sheet) (omega (arith, length-drop middle sheet, facts .replacement-ahead, facts .inside))
 
-    new-long : length (take part place ++ letters-new) ≡ part + s2
+    new-long : length (take part place ++ letters-new) ≡ part + added
     new-long = omega (arith, length-append (take part place) letters-new, part-long, letters-long)
 
-    step-replace : (after : List ℕ) → a ≡ 0 → s2 ≤ length place - part → after ≡ putAt place part letters-new
-        → Stepped step (length place) after (part + s2) (eqb o 1) true
+    step-replace : (after : List ℕ) → a ≡ 0 → added ≤ length place - part → after ≡ putAt place part letters-new
+        → Stepped step (length place) after (part + added) (eqb o 1) true
     step-replace after e room stored =
-        let size-is : part + s2 ≡ part + length letters-new = omega (arith, letters-long) in
+        let size-is : part + added ≡ part + length letters-new = omega (arith, letters-long) in
         let put = put-behind place part letters-new (omega (arith, letters-long)) in
         rw (given, replaced e)
         (record {
@@ -123,7 +131,7 @@ module _ (nodes : Nodes) (root number : ℕ) (place : List ℕ) (size : ℕ) (ru
           letters = λ t. (rw (stored, size-is) put, omega arith, opening);
         })
 
-    step-outgrown : (opened : Bool) → a ≡ 0 → length place - part < s2 → Stepped step (length place) place size opened false
+    step-outgrown : (opened : Bool) → a ≡ 0 → length place - part < added → Stepped step (length place) place size opened false
     step-outgrown opened e room =
         rw (given, replaced e)
         (record {
@@ -131,9 +139,19 @@ module _ (nodes : Nodes) (root number : ℕ) (place : List ℕ) (size : ℕ) (ru
           letters = λ t. absurd (false≢true t);
         })
 
-    all-ways : Obeyed step sheet place size at a o s1 s2
-    all-ways = record { inside = facts .inside; single = step-single; replaced = step-replace; outgrown = step-outgrown }
+    all-ways : Obeyed step sheet place size a o start middle next
+    all-ways =
+        record {
+          ending-ahead = facts .ending-ahead;
+          replacement-ahead = facts .replacement-ahead;
+          inside = facts .inside;
+          single = step-single;
+          replaced = step-replace;
+          outgrown = step-outgrown;
+        }
 
-  pub obeyed : (found ≡ 0 → ⊥) → (sheet : List ℕ) (at a o s1 s2 : ℕ) → Some sheet (picked nodes root found word number rules) at a o s1 s2
-      → Obeyed step sheet place size at a o s1 s2
-  obeyed deeper sheet at a o s1 s2 it = all-ways sheet at (it .condition) a o s1 s2 (it .one) (it .facts) deeper (it .is-one)
+  pub obeyed : (found ≡ 0 → ⊥) → (sheet : List ℕ) (a o start middle next : ℕ)
+      → Some sheet (picked nodes root found word number rules) a o start middle next
+      → Obeyed step sheet place size a o start middle next
+  obeyed deeper sheet a o start middle next it =
+      all-ways sheet (it .condition) a o start middle next (it .one) (it .facts) deeper (it .is-one)

@@ -10,7 +10,7 @@ use lib.Seq.{take-at, take-all}
 use borrow.Author.Tests.{ltb-true}
 use Rattle.paper.specs.Groups.{same}
 use Rattle.paper.specs.Words.{wordOutcome, Gives}
-use Rattle.sheets.specs.Apart.{apart}
+use Rattle.paper.specs.TestLaws.{apart}
 use Rattle.sheets.specs.Sheets.{Sheet, refused, accepted, readSheet}
 use Rattle.paper.specs.Nodes.{nodeCount}
 use Rattle.siblings.specs.Layout.{tableOf}

@@ -10,7 +10,7 @@ use Rattle.paper.specs.Words.{Outcome, refused, wordOutcome, readWord, outcome,
 use Rattle.paper.specs.Shipped.{shipped}
 use Rattle.sheets.specs.Sheets.{Sheet, refused as faulty, accepted, readSheet}
 use Rattle.paper.specs.Nodes.{nodeCount}
-use Rattle.sheets.specs.Bytes.{sheetOf}
+use Rattle.sheets.specs.SheetBytes.{sheetOf}
 use Rattle.sheets.specs.ShippedSheet.{reads}
 use Rattle.siblings.specs.Layout.{tableOf}
 use Rattle.siblings.specs.Children.{nodesIn}

@@ -11,14 +11,13 @@ use lib.Dec.{eqb, leb}
 use lib.ListN.{length, take, drop}
 use Rattle.paper.specs.Conditions.{holds}
 use Rattle.paper.specs.Groups.{Rule, Group, before}
-use Rattle.sheets.specs.Records.{body, rule}
-use Rattle.sheets.specs.Sheets.{Rest, faulty-at, holding, readRest}
-use Rattle.sheets.specs.Answers.{recordIn}
-use Rattle.sheets.specs.declared.records.Record.the-variants.{Group as GroupRecord, Rule as RuleRecord, End as EndRecord}
+use Rattle.records.specs.RecordAnswers.{recordAt}
+use Rattle.records.specs.RecordPlaces.{RuleFacts}
+use Rattle.records.specs.declared.Record.the-variants.{Group as GroupRecord, Rule as RuleRecord, End as EndRecord}
+use Rattle.sheets.specs.Sheets.{Rest, faulty-at, holding, restAt}
 use Rattle.walks.specs.Walk.{Nodes, reached, held}
 use Rattle.walks.specs.PickLaws.{pick}
 use Rattle.sheets.specs.SheetPlaces.{Holding, RuleNext, group-next, rule-next, end-next}
-use Rattle.sheets.specs.RulePlaces.{RuleFacts, rule-facts}
 
 -- the rules up to the next group, and the groups, that the rest of a sheet holds
 unfoldable pub rulesOf : Rest → List Rule
@@ -28,9 +27,6 @@ rulesOf (holding rules groups) = rules
 unfoldable pub groupsAfter : Rest → List Group
 groupsAfter (faulty-at place) = []
 groupsAfter (holding rules groups) = groups
-
-abbrev pub restAt : List ℕ → ℕ → ℕ → ℕ → Rest
-restAt sheet at groups rules = readRest (length (drop at sheet)) groups rules at (drop at sheet)
 
 -- the rest of the sheet is not refused
 abbrev pub Readable : List ℕ → ℕ → ℕ → ℕ → Type 0
@@ -48,10 +44,10 @@ picked nodes root found word number rules =
     pick (λ rule. eqb found (held nodes (reached nodes root (rule .ending)))) (λ rule. holds (rule .condition)
     (before word (rule .ending))) found number rules
 
--- what is handed back of the rule that was picked: the place of its record, or 0, and its numbers
+-- what is handed back of the rule that was picked: its numbers and places, or none that starts after 0
 abbrev pub PickedAs : List ℕ → Option Rule → ℕ → ℕ → ℕ → ℕ → ℕ → Type 0
-PickedAs sheet none place action opens s1 s2 = place ≡ 0
-PickedAs sheet (some one) place action opens s1 s2 = (0 < place) × (condition : ℕ) × RuleFacts sheet place condition action opens s1 s2 one
+PickedAs sheet none action opens start middle next = start ≡ 0
+PickedAs sheet (some one) action opens start middle next = (condition : ℕ) × RuleFacts sheet condition action opens start middle next one
 
 pub record Trying (nodes : Nodes) (root found : ℕ) (word sheet : List ℕ) (groups start first place rules : ℕ) : Type 0 where
   pub list : List Rule
@@ -96,45 +92,39 @@ module _ {nodes : Nodes} {root found : ℕ} {word sheet : List ℕ} {groups star
   none-picked : state .list ≡ [] → answer ≡ none
   none-picked e = sym (state .decides) ∙ picked-none nodes root found word (rules + 1) (state .list) e
 
-  pub trying-group : {number : ℕ} → recordIn (drop place sheet) ≡ GroupRecord number → answer ≡ none
+  pub trying-group : {number next : ℕ} → recordAt sheet place ≡ GroupRecord number next → answer ≡ none
   trying-group e = none-picked (group-next (state .holds-here) e .none-before)
 
-  pub trying-end : recordIn (drop place sheet) ≡ EndRecord → answer ≡ none
+  pub trying-end : recordAt sheet place ≡ EndRecord → answer ≡ none
   trying-end e = none-picked (end-next (state .holds-here) e .0)
 
-  module _ {c a o s1 s2 : ℕ} (e : recordIn (drop place sheet) ≡ RuleRecord c a o s1 s2) where
-    abbrev next : RuleNext (state .holds-here) s1 s2
-    next = rule-next (state .holds-here) e
-
-    abbrev facts : RuleFacts sheet place c a o s1 s2 (rule (body (drop place sheet)))
-    facts = rule-facts sheet place c a o s1 s2 e
-
+  module _ {c a o start-of middle after : ℕ} (found-rule : RuleNext (state .holds-here) c a o start-of middle after) where
     -- how the rule that stands here was judged
     abbrev Judged : Bool → Type 0
-    Judged judged = judged ≡ obeys nodes root found word (rules + 1) c (take s1 (drop (place + 8) sheet))
+    Judged judged = judged ≡ obeys nodes root found word (rules + 1) c (take (middle - start-of) (drop start-of sheet))
 
     tested : {judged : Bool} (test : Bool) → Judged judged → judged ≡ test
-        → obeys nodes root found word (rules + 1) (next .one .condition) (next .one .ending) ≡ test
-    tested test is t =
-        let same-condition : next .one .condition ≡ c = ap (λ (one : Rule). one .condition) (next .is-here) ∙ facts .condition-is in
-        rw (same-condition, ← next .ending-here) (sym is ∙ t)
+        → obeys nodes root found word (rules + 1) (found-rule .one .condition) (found-rule .one .ending) ≡ test
+    tested test is t = rw (found-rule .facts .condition-is, found-rule .facts .ending-is) (sym is ∙ t)
 
-    pub trying-here : {judged : Bool} → Judged judged → judged ≡ true → answer ≡ some (rule (body (drop place sheet)))
+    pub trying-here : {judged : Bool} → Judged judged → judged ≡ true → answer ≡ some (found-rule .one)
     trying-here is t =
         sym (state .decides)
-        ∙ picked-here nodes root found word (rules + 1) (state .list) (next .one) (next .rules-then) (next .rule-first) (tested true is t)
-        ∙ ap some (next .is-here)
+        ∙ picked-here nodes root found word (rules + 1) (state .list) (found-rule .one) (found-rule .rules-then)
+        (found-rule .rule-first) (tested true is t)
 
     pub trying-next : {judged : Bool} → Judged judged → judged ≡ false
-        → Trying nodes root found word sheet groups start first (place + (8 + s1 + s2)) (rules + 1)
+        → Trying nodes root found word sheet groups start first after (rules + 1)
     trying-next is t =
-        let passed = picked-next nodes root found word (rules + 1) (state .list) (next .one) (next .rules-then) (next .rule-first)
-        (tested false is t) in
+        let passed =
+        picked-next nodes root found word (rules + 1) (state .list) (found-rule .one) (found-rule .rules-then)
+        (found-rule .rule-first) (tested false is t) in
         record {
-          list = next .rules-then;
+          list = found-rule .rules-then;
           more = state .more;
-          holds-here = next .holds;
-          decides = ap (λ (n : ℕ). picked nodes root found word n (next .rules-then)) (add-one (rules + 1)) ∙ sym passed ∙ state .decides;
+          holds-here = found-rule .holds;
+          decides =
+              ap (λ (n : ℕ). picked nodes root found word n (found-rule .rules-then)) (add-one (rules + 1)) ∙ sym passed ∙ state .decides;
         }
 
 -- One rule, test by test
@@ -157,18 +147,20 @@ module _ (nodes : Nodes) (root found : ℕ) (word : List ℕ) (number condition 
 
 -- What was handed back says whether a rule was picked, and which
 
-pub none-picked-as : (sheet : List ℕ) (found : Option Rule) (place action opens s1 s2 : ℕ) → PickedAs sheet found place action opens s1 s2
-    → place ≡ 0 → found ≡ none
-none-picked-as sheet none place action opens s1 s2 is e = refl
-none-picked-as sheet (some one) place action opens s1 s2 is e = let h = is .0 in absurd (omega arith)
+module _ (sheet : List ℕ) (found : Option Rule) (action opens start middle next : ℕ) where
+  pub record Some : Type 0 where
+    pub one : Rule
+    pub condition : ℕ
+    pub is-one : found ≡ some one
+    pub facts : RuleFacts sheet condition action opens start middle next one
 
-pub record Some (sheet : List ℕ) (found : Option Rule) (place action opens s1 s2 : ℕ) : Type 0 where
-  pub one : Rule
-  pub condition : ℕ
-  pub is-one : found ≡ some one
-  pub facts : RuleFacts sheet place condition action opens s1 s2 one
+pub none-picked-as : (sheet : List ℕ) (found : Option Rule) (action opens start middle next : ℕ)
+    → PickedAs sheet found action opens start middle next → start ≡ 0 → found ≡ none
+none-picked-as sheet none action opens start middle next is e = refl
+none-picked-as sheet (some one) action opens start middle next is e = let h = is .1 .some in absurd (omega arith)
 
-pub some-picked-as : (sheet : List ℕ) (found : Option Rule) (place action opens s1 s2 : ℕ) → PickedAs sheet found place action opens s1 s2
-    → (place ≡ 0 → ⊥) → Some sheet found place action opens s1 s2
-some-picked-as sheet none place action opens s1 s2 is e = absurd (e is)
-some-picked-as sheet (some one) place action opens s1 s2 is e = record { one = one; condition = is .1; is-one = refl; facts = is .2 }
+pub some-picked-as : (sheet : List ℕ) (found : Option Rule) (action opens start middle next : ℕ)
+    → PickedAs sheet found action opens start middle next → (start ≡ 0 → ⊥) → Some sheet found action opens start middle next
+some-picked-as sheet none action opens start middle next is e = absurd (e is)
+some-picked-as sheet (some one) action opens start middle next is e =
+    record { one = one; condition = is .0; is-one = refl; facts = is .1 }

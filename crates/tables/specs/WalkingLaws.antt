@@ -10,14 +10,14 @@ use lib.ListN.{length, take, drop, length-take}
 use lib.Seq.{take-length}
 use Rattle.paper.specs.Groups.{Rule, Gate, always, if-opened, Group, runs, Turn, steps, done, outgrown, reading, through}
 use Rattle.paper.specs.TurnLaws.{turn-skipped, turn-run, turn-outgrown}
-use Rattle.sheets.specs.Answers.{recordIn}
-use Rattle.sheets.specs.declared.records.Record.the-variants.{End as EndRecord}
+use Rattle.records.specs.RecordAnswers.{recordAt}
+use Rattle.records.specs.declared.Record.the-variants.{End as EndRecord}
+use Rattle.sheets.specs.Sheets.{restAt}
 use Rattle.walks.specs.Walk.{Nodes, walked, walkGroup, walkTurns, walkWord}
 use Rattle.paper.specs.TestLaws.{by-test}
-use Rattle.sheets.specs.Accepted.{groupsOf}
-use Rattle.sheets.specs.Accepted.{Accepted}
+use Rattle.sheets.specs.Accepted.{groupsOf, Accepted}
 use Rattle.sheets.specs.SheetPlaces.{Holding, holding-start, GroupNext, RuleNext, end-next}
-use Rattle.tables.specs.TryLaws.{rulesOf, groupsAfter, restAt, Readable}
+use Rattle.tables.specs.TryLaws.{rulesOf, groupsAfter, Readable}
 use Rattle.tables.specs.GroupStepLaws.{Stepped}
 
 -- the rest of the sheet decides what the walk leaves
@@ -52,8 +52,8 @@ runs-by number opened = by-test (eqb number 0) (λ p. rw p) (λ p. rw p)
 
 module _ {nodes : Nodes} {sheet first : List ℕ} {at next rules : ℕ} {opened : Bool} {word : List ℕ}
     (state : Walking nodes sheet first at next rules opened word) where
-  module _ {number : ℕ} (found : GroupNext (state .holds) number) where
-    pub walking-readable : Readable sheet (at + 6) (next + 1) rules
+  module _ {number after-group : ℕ} (found : GroupNext (state .holds) number after-group) where
+    pub walking-readable : Readable sheet after-group (next + 1) rules
     walking-readable = readable (found .holds) .0
 
     number-here : rules + 1 + length (state .list) ≡ rules + 1
@@ -65,7 +65,7 @@ module _ {nodes : Nodes} {sheet first : List ℕ} {at next rules : ℕ} {opened 
     gated : (test : Bool) → (eqb number 0 || opened) ≡ test → runs (found .gate-then) opened ≡ test
     gated test t = ap (λ (one : Gate). runs one opened) (found .gate-is) ∙ runs-by number opened ∙ t
 
-    rules-here : rulesOf (restAt sheet (at + 6) (next + 1) rules) ≡ found .rules-then
+    rules-here : rulesOf (restAt sheet after-group (next + 1) rules) ≡ found .rules-then
     rules-here = readable (found .holds) .1
 
     abbrev later : List Turn
@@ -80,21 +80,21 @@ module _ {nodes : Nodes} {sheet first : List ℕ} {at next rules : ℕ} {opened 
     go-on : (word-then : List ℕ) (opened-then : Bool) → length word-then ≤ length first
         → through (length first) (walkTurns nodes next (rules + 1) (state .more)) opened word
         ≡ through (length first) later opened-then word-then
-        → Walking nodes sheet first (at + 6) (next + 1) rules opened-then word-then
+        → Walking nodes sheet first after-group (next + 1) rules opened-then word-then
     go-on word-then opened-then fits e =
         record { list = found .rules-then; more = found .groups-then; holds = found .holds; short = fits; decides = sym e ∙ from-here }
 
-    pub walking-skip : (eqb number 0 || opened) ≡ false → Walking nodes sheet first (at + 6) (next + 1) rules false word
+    pub walking-skip : (eqb number 0 || opened) ≡ false → Walking nodes sheet first after-group (next + 1) rules false word
     walking-skip t = go-on word false (state .short) (turn-skipped (length first) split opened word (gated false t) (state .short))
 
     module _ (after : List ℕ) (size : ℕ) (opened-then fits : Bool) (t : (eqb number 0 || opened) ≡ true)
-        (stepped : Stepped (walkGroup nodes next (rules + 1) word (rulesOf (restAt sheet (at + 6) (next + 1) rules)))
+        (stepped : Stepped (walkGroup nodes next (rules + 1) word (rulesOf (restAt sheet after-group (next + 1) rules)))
         (length first) after size opened-then fits) where
       step-own : Stepped (walkGroup nodes next (rules + 1) word (found .rules-then)) (length first) after size opened-then fits
       step-own = subst (λ (list : List Rule). Stepped (walkGroup nodes next (rules + 1) word list)
           (length first) after size opened-then fits) rules-here stepped
 
-      pub walking-step : fits ≡ true → Walking nodes sheet first (at + 6) (next + 1) rules opened-then (take size after)
+      pub walking-step : fits ≡ true → Walking nodes sheet first after-group (next + 1) rules opened-then (take size after)
       walking-step f =
           let left = step-own .letters f in
           let run = turn-run (length first) split opened word (gated true t) (sym (step-own .fits-is) ∙ f) in
@@ -104,8 +104,8 @@ module _ {nodes : Nodes} {sheet first : List ℕ} {at next rules : ℕ} {opened 
       walking-outgrown f =
           sym (turn-outgrown (length first) split opened word (gated true t) (sym (step-own .fits-is) ∙ f)) ∙ from-here
 
-  pub walking-rule : {s1 s2 : ℕ} → RuleNext (state .holds) s1 s2
-      → Walking nodes sheet first (at + (8 + s1 + s2)) next (rules + 1) opened word
+  pub walking-rule : {c a o start middle after : ℕ} → RuleNext (state .holds) c a o start middle after
+      → Walking nodes sheet first after next (rules + 1) opened word
   walking-rule found =
       let shorter = ap length (found .rule-first) in
       let same-number : rules + 1 + 1 + length (found .rules-then) ≡ rules + 1 + length (state .list) = omega (arith, shorter) in
@@ -117,7 +117,7 @@ module _ {nodes : Nodes} {sheet first : List ℕ} {at next rules : ℕ} {opened 
         decides = rw same-number (state .decides);
       }
 
-  pub walking-end : recordIn (drop at sheet) ≡ EndRecord → done word ≡ walkWord nodes (groupsOf sheet) first
+  pub walking-end : recordAt sheet at ≡ EndRecord → done word ≡ walkWord nodes (groupsOf sheet) first
   unfolding walkTurns steps reading
   walking-end here =
       let over = end-next (state .holds) here in

@@ -1,18 +1,18 @@
 // The run of a table on a word, group by group.
 ghost use mathlib.Core.Path.{_≡_};
 ghost use Prim.Native.Nat.{_+_, _-_, _<_, _≤_};
-ghost use lib.ListN.{length, take, drop};
-ghost use Rattle.sheets.specs.Accepted.{groupsOf};
-ghost use Rattle.sheets.specs.Accepted.{Accepted};
+ghost use lib.ListN.{length, take};
+ghost use Rattle.sheets.specs.Accepted.{groupsOf, Accepted};
+ghost use Rattle.sheets.specs.Sheets.{restAt};
 ghost use Rattle.siblings.specs.Children.{nodesIn};
 ghost use Rattle.walks.specs.Walk.{walkGroup, walkWord};
 ghost use Rattle.tables.specs.WalkAnswers.{WalkedAs};
 ghost use Rattle.tables.specs.GroupStepLaws.{Stepped};
-ghost use Rattle.tables.specs.TryLaws.{Readable, PickedAs, picked, rulesOf, restAt, obeys as obeysOf};
+ghost use Rattle.tables.specs.TryLaws.{Readable, PickedAs, picked, rulesOf, obeys as obeysOf};
 use crate::paths::deepest;
 use crate::paths::held_at;
-use sheets::reader::draw;
-use sheets::records::Record;
+use records::Record;
+use records::reader::draw;
 
 // What is left of a number after another is taken away, or 0.
 fn less(one: usize, other: usize) -> usize
@@ -21,53 +21,49 @@ fn less(one: usize, other: usize) -> usize
     if other < one { one - other } else { 0 }
 }
 
-// Whether the rule of this number, whose record stands at `place`, is the one that a walk which found `found` obeys.
+// Whether the rule of this number, condition and ending is the one that a walk which found `found` obeys.
 fn obeys(
-    sheet: &[u8],
-    place: usize,
     condition: u8,
-    ending: usize,
+    ending: &[u8],
     number: usize,
     table: &[u16],
     root: usize,
     found: usize,
     word: &[u8],
 ) -> bool
-    requires { ⌜ (place + 8 + ending ≤ length (now sheet)) × (root < 65536) ⌝ }
+    requires { ⌜ root < 65536 ⌝ }
     ensures { λ r. ⌜ r ≡ obeysOf (nodesIn (now (table .entry))) root found (now (word .entry)) number condition
-        (take ending (drop (place + 8) (now (sheet .entry)))) ⌝ }
+        (now (ending .entry)) ⌝ }
 {
     if number < found {
         return false;
     }
-    let start = place + 8;
-    let end = start + ending;
-    if found != held_at(table, root, &sheet[start..end]) {
+    if found != held_at(table, root, ending) {
         return false;
     }
-    let part = less(word.len(), ending);
+    let part = less(word.len(), ending.len());
     letters::holds(condition, &word[..part])
 }
 
-// A rule that was found in the sheet: the place of its record, or 0 for none, and its numbers.
+// A rule that was found in the sheet: its action, whether it opens, and the places of its letters. For none, `start` is 0.
 struct Found {
-    place: usize,
     action: u8,
     opens: u8,
-    ending: usize,
-    replacement: usize,
+    start: usize,
+    middle: usize,
+    next: usize,
 }
 
 // No rule.
 fn nothing() -> Found
-    ensures { λ r. ⌜ r .place ≡ 0 ⌝ }
+    ensures { λ r. ⌜ r .start ≡ 0 ⌝ }
 {
     Found {
-        place: 0,
         action: 0,
         opens: 0,
-        ending: 0,
-        replacement: 0,
+        start: 0,
+        middle: 0,
+        next: 0,
     }
 }
 
@@ -82,31 +78,30 @@ fn tried_at(
     found: usize,
     word: &[u8],
 ) -> Found
-    requires { ⌜ Readable (now sheet) at groups rules × ((0 < at) × ((at ≤ length (now sheet)) × ((rules ≤ 128) × (root < 65536)))) ⌝ }
+    requires { ⌜ Readable (now sheet) at groups rules × ((at ≤ length (now sheet)) × ((rules ≤ 128) × (root < 65536))) ⌝ }
     ensures { λ r. ⌜ PickedAs (now (sheet .entry))
         (picked (nodesIn (now (table .entry))) root found (now (word .entry)) (rules + 1)
         (rulesOf (restAt (now (sheet .entry)) at groups rules)))
-        (r .place) (r .action) (r .opens) (r .ending) (r .replacement) ⌝ }
+        (r .action) (r .opens) (r .start) (r .middle) (r .next) ⌝ }
 {
     let mut place = at;
     let mut number = rules;
     while place < sheet.len() {
         let record = draw(sheet, place);
         match record {
-            Record::Group(_) => return nothing(),
+            Record::Group { gate: _, next: _ } => return nothing(),
             Record::Rule {
                 condition,
                 action,
                 opens,
-                ending,
-                replacement,
+                start,
+                middle,
+                next,
             } => {
                 number += 1;
                 if obeys(
-                    sheet,
-                    place,
                     condition,
-                    ending,
+                    &sheet[start..middle],
                     number,
                     table,
                     root,
@@ -114,14 +109,14 @@ fn tried_at(
                     word,
                 ) {
                     return Found {
-                        place,
                         action,
                         opens,
-                        ending,
-                        replacement,
+                        start,
+                        middle,
+                        next,
                     };
                 }
-                place += 8 + ending + replacement;
+                place = next;
             }
             Record::End => return nothing(),
             Record::Faulty => return nothing(),
@@ -150,7 +145,7 @@ fn walk_group(
     size: usize,
 ) -> Step
     requires { ⌜ Readable (now sheet) at groups rules
-        × ((0 < at) × ((at ≤ length (now sheet)) × ((rules ≤ 128) × ((root < 65536) × (size ≤ length (now word)))))) ⌝ }
+        × ((at ≤ length (now sheet)) × ((rules ≤ 128) × ((root < 65536) × (size ≤ length (now word))))) ⌝ }
     ensures { λ r. ⌜ Stepped
         (walkGroup (nodesIn (now (table .entry))) root (rules + 1) (take size (now (word .entry)))
         (rulesOf (restAt (now (sheet .entry)) at groups rules)))
@@ -165,16 +160,16 @@ fn walk_group(
         };
     }
     let rule = tried_at(sheet, at, groups, rules, table, root, found, &word[..size]);
-    let place = rule.place;
-    if place == 0 {
+    let start = rule.start;
+    if start == 0 {
         return Step {
             size,
             opened: false,
             fits: true,
         };
     }
-    let ending = rule.ending;
-    let part = less(size, ending);
+    let middle = rule.middle;
+    let part = less(size, middle - start);
     let opened = rule.opens == 1;
     if rule.action != 0 {
         return Step {
@@ -183,7 +178,8 @@ fn walk_group(
             fits: true,
         };
     }
-    let added = rule.replacement;
+    let next = rule.next;
+    let added = next - middle;
     if word.len() - part < added {
         return Step {
             size,
@@ -191,9 +187,7 @@ fn walk_group(
             fits: false,
         };
     }
-    let start = place + 8 + ending;
-    let end = start + added;
-    places::put(word, part, &sheet[start..end]);
+    places::put(word, part, &sheet[middle..next]);
     Step {
         size: part + added,
         opened,
@@ -214,19 +208,19 @@ pub(crate) fn walk_groups(sheet: &[u8], table: &[u16], word: &mut [u8]) -> Walke
         r (now (word .exit)) ⌝ }
 {
     let mut at = 0;
-    let mut next = 0;
+    let mut groups = 0;
     let mut rules = 0;
     let mut opened = false;
     let mut size = word.len();
     while at < sheet.len() {
         let found = draw(sheet, at);
         match found {
-            Record::Group(gate) => {
-                let root = next;
-                at += 6;
-                next += 1;
+            Record::Group { gate, next } => {
+                let root = groups;
+                at = next;
+                groups += 1;
                 if (gate == 0) | opened {
-                    let step = walk_group(sheet, at, next, rules, table, root, word, size);
+                    let step = walk_group(sheet, at, groups, rules, table, root, word, size);
                     if !step.fits {
                         return Walked::Outgrown;
                     }
@@ -240,11 +234,12 @@ pub(crate) fn walk_groups(sheet: &[u8], table: &[u16], word: &mut [u8]) -> Walke
                 condition: _,
                 action: _,
                 opens: _,
-                ending,
-                replacement,
+                start: _,
+                middle: _,
+                next,
             } => {
                 rules += 1;
-                at += 8 + ending + replacement;
+                at = next;
             }
             Record::End => return Walked::Left(size),
             Record::Faulty => return Walked::Outgrown,

@@ -1,4 +1,4 @@
--- `sheets::misplaced_group` meets its contract: the count of groups and the gate are held against their bounds. Assumes nothing.
+-- `sheets::misplaced_group` meets its contract: the count of groups and the gate are held against their bounds.
 use mathlib.Core.Path.{refl}
 use Rattle.sheets.proofs.misplaced_group.Statement.{statement}
 use Rattle.sheets.proofs.misplaced_group.Tie as tie

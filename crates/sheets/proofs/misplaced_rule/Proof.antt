@@ -1,4 +1,4 @@
--- `sheets::misplaced_rule` meets its contract: the counts of groups and of rules are held against their bounds. Assumes nothing.
+-- `sheets::misplaced_rule` meets its contract: the counts of groups and of rules are held against their bounds.
 use mathlib.Core.Path.{refl}
 use Rattle.sheets.proofs.misplaced_rule.Statement.{statement}
 use Rattle.sheets.proofs.misplaced_rule.Tie as tie

@@ -1,7 +1,9 @@
 -- `shipped::sheet` meets its contract: the constant is the bytes of the shipped rules.
 use mathlib.Core.Path.{refl}
 use Rattle.paper.specs.Shipped.{shipped}
-use Rattle.sheets.specs.Bytes.{two, recordOf, gateBody, ruleBody, rulesBytes, groupsBytes, sheetOf}
+use Rattle.records.specs.Framing.{two, recordOf}
+use Rattle.records.specs.RecordBytes.{gateBody, ruleBody}
+use Rattle.sheets.specs.SheetBytes.{rulesBytes, groupsBytes, sheetOf}
 use Rattle.shipped.proofs.sheet.Statement.{statement}
 use Rattle.shipped.proofs.sheet.Tie as tie
 

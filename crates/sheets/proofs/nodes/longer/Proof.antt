@@ -1,13 +1,13 @@
 -- `sheets::nodes::longer` meets its contract: where the letters before the last `least` differ, or one ending has no more,
--- no longer tail is shared. Assumes nothing.
+-- no longer tail is shared.
 use Prim.Native.Nat.{ℕ, max}
 use mathlib.Core.Path.{_≡_}
 use mathlib.Core.List.{List}
 use native.Mathlib.Omega.{arith}
 use borrow.Author.Needs.{needs}
 use Rattle.paper.specs.Nodes.{tails}
-use Rattle.sheets.specs.LookBack.{shared}
-use Rattle.sheets.specs.SharedTails.{Stop, shared-below}
+use Rattle.paper.specs.LookBack.{shared}
+use Rattle.paper.specs.SharedTails.{Stop, shared-below}
 use Rattle.sheets.proofs.nodes.longer.Statement.{statement}
 use Rattle.sheets.proofs.nodes.longer.Tie as tie
 

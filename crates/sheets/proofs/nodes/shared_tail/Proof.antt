@@ -1,5 +1,5 @@
 -- `sheets::nodes::shared_tail` meets its contract. The loop's invariant: the last `k` letters are equal. The measure is what
--- is left of the first ending. Assumes nothing.
+-- is left of the first ending.
 use Prim.Native.Nat.{ℕ, suc, _+_, _-_, _≤_, _<_}
 use mathlib.Core.Path.{_≡_, sym, ap, _∙_}
 use mathlib.Core.List.{List, _∷_}
@@ -7,8 +7,8 @@ use native.Mathlib.Omega.{arith}
 use lib.ListN.{length, getD, drop}
 use lib.Seq.{drop-cons, drop-length}
 use Rattle.paper.specs.Nodes.{tails}
-use Rattle.sheets.specs.LookBack.{shared}
-use Rattle.sheets.specs.SharedTails.{Equal, Stop, shared-is}
+use Rattle.paper.specs.LookBack.{shared}
+use Rattle.paper.specs.SharedTails.{Equal, Stop, shared-is}
 use Rattle.sheets.proofs.nodes.shared_tail.Statement.{statement}
 use Rattle.sheets.proofs.nodes.shared_tail.Tie as tie
 
@@ -39,7 +39,8 @@ abbrev μ-loop : tie.MeasureT-loop
 μ-loop one other k₀ k = length one - k
 
 -- where no further letter is equal, the loop is at the answer
-at-the-answer : (one other : List ℕ) (k : ℕ) → (k ≤ length one) × (k ≤ length other) × Equal one other k → Stop one other k → k ≡ shared one (tails other)
+at-the-answer : (one other : List ℕ) (k : ℕ) → (k ≤ length one) × (k ≤ length other) × Equal one other k → Stop one other k
+    → k ≡ shared one (tails other)
 at-the-answer one other k so-far stop = sym (shared-is one other k (so-far .0) (so-far .2) stop)
 
 loop-holds : tie.Need-loop-holds Inv-loop μ-loop

@@ -1,4 +1,4 @@
--- `tables::runs::walk_group` meets its contract: what a group leaves, case by case. Assumes nothing.
+-- `tables::runs::walk_group` meets its contract: what a group leaves, case by case.
 use Prim.Native.Nat.{_+_, _-_}
 use mathlib.Core.Path.{_≡_, sym}
 use native.Mathlib.Omega.{arith}
@@ -8,7 +8,8 @@ use lib.Seq.{length-take-le}
 use Rattle.paper.specs.Groups.{Rule}
 use Rattle.siblings.specs.Children.{nodesIn}
 use Rattle.walks.specs.Walk.{walkGroup}
-use Rattle.tables.specs.TryLaws.{rulesOf, restAt, none-picked-as, some-picked-as}
+use Rattle.sheets.specs.Sheets.{restAt}
+use Rattle.tables.specs.TryLaws.{rulesOf, none-picked-as, some-picked-as}
 use Rattle.tables.specs.GroupStepLaws.{step-none, step-turned-down, Obeyed, obeyed}
 use borrow.Author.Needs.{needs}
 use Rattle.tables.proofs.runs.walk_group.Statement.{statement}
@@ -18,8 +19,9 @@ slice-reshare-prefix-deepest : tie.Need-slice-reshare-prefix-deepest
 slice-reshare-prefix-deepest c = search needs
 
 slice-aggregate-deepest : tie.Need-slice-aggregate-deepest
-slice-aggregate-deepest c = sym (length-take-le (c .before .before .before .before .args .size)
-    (c .before .before .before .before .args .word .now) (c .before .before .before .before .pre .1 .1 .1 .1 .1))
+slice-aggregate-deepest c =
+    let start = c .before .before .before .before in
+    sym (length-take-le (start .args .size) (start .args .word .now) (start .pre .1 .1 .1 .1))
 
 deepest-requires : tie.Need-deepest-requires
 deepest-requires c κs = search needs
@@ -34,15 +36,15 @@ own start = rulesOf (restAt (start .args .sheet .now) (start .args .at) (start .
 returns : tie.Need-returns
 returns c =
     let start = c .before .before .before .before .before .before in
-    step-none _ _ _ _ _ (own start) _ (start .pre .1 .1 .1 .1 .1) (c .before .deepest .ensures) (c .if1 .taken)
+    step-none _ _ _ _ _ (own start) _ (start .pre .1 .1 .1 .1) (c .before .deepest .ensures) (c .if1 .taken)
 
 slice-reshare-prefix-tried-at : tie.Need-slice-reshare-prefix-tried-at
 slice-reshare-prefix-tried-at c = search needs
 
 slice-aggregate-tried-at : tie.Need-slice-aggregate-tried-at
-slice-aggregate-tried-at c = sym (length-take-le (c .before .before .before .before .before .before .before .args .size)
-    (c .before .before .before .before .before .before .before .args .word .now)
-    (c .before .before .before .before .before .before .before .pre .1 .1 .1 .1 .1))
+slice-aggregate-tried-at c =
+    let start = c .before .before .before .before .before .before .before in
+    sym (length-take-le (start .args .size) (start .args .word .now) (start .pre .1 .1 .1 .1))
 
 tried-at-requires : tie.Need-tried-at-requires
 tried-at-requires c κs = search needs
@@ -53,8 +55,8 @@ same-length-2 c = search needs
 returns-2 : tie.Need-returns-2
 returns-2 c =
     let start = c .before .before .before .before .before .before .before .before .before in
-    step-turned-down _ _ _ _ _ (own start) _ (start .pre .1 .1 .1 .1 .1)
-    (c .before .before .before .before .deepest .ensures) (c .before .before .before .if1 .left)
+    let deep = c .before .before .before .before .deepest .ensures in
+    step-turned-down _ _ _ _ _ (own start) _ (start .pre .1 .1 .1 .1) deep (c .before .before .before .if1 .left)
     (none-picked-as _ _ _ _ _ _ _ (c .before .tried-at .ensures) (c .if2 .taken))
 
 -- a rule was picked, and so it is obeyed
@@ -63,12 +65,15 @@ obeyed-of : (c : tie.Else2)
     let a = start .args in
     let rule = c .before .tried-at .result in
     Obeyed (walkGroup (nodesIn (a .table .now)) (a .root) (a .rules + 1) (take (a .size) (a .word .now)) (own start)) (a .sheet .now)
-    (a .word .now) (a .size) (rule .place) (rule .action) (rule .opens) (rule .ending) (rule .replacement))
+    (a .word .now) (a .size) (rule .action) (rule .opens) (rule .start) (rule .middle) (rule .next))
 obeyed-of c =
     let start = c .before .before .before .before .before .before .before .before .before in
-    obeyed _ _ _ _ _ (own start) _ (start .pre .1 .1 .1 .1 .1)
-    (c .before .before .before .before .deepest .ensures) (c .before .before .before .if1 .left)
+    let deep = c .before .before .before .before .deepest .ensures in
+    obeyed _ _ _ _ _ (own start) _ (start .pre .1 .1 .1 .1) deep (c .before .before .before .if1 .left)
     _ _ _ _ _ _ (some-picked-as _ _ _ _ _ _ _ (c .before .tried-at .ensures) (c .if2 .left))
+
+sub-less : tie.Need-sub-less
+sub-less c = obeyed-of c .ending-ahead
 
 less-requires : tie.Need-less-requires
 less-requires c κs = search needs
@@ -84,6 +89,9 @@ returns-3 c =
     rw (c .less2 .ensures, c .before .before .before .before .less .ensures)
     (obeyed-of (c .before .before .before .before .before) .single (c .before .if3 .taken))
 
+sub-added : tie.Need-sub-added
+sub-added c = obeyed-of (c .before .before .before .before) .replacement-ahead
+
 sub-if4 : tie.Need-sub-if4
 sub-if4 c = search needs
 
@@ -95,38 +103,28 @@ returns-4 c =
     let room = rw (c .before .before .before .before .less .ensures) at (c .if4 .taken) in
     obeyed-of (c .before .before .before .before .before) .outgrown _ (c .before .if3 .left) room
 
-add-start : tie.Need-add-start
-add-start c = let inside = obeyed-of (c .before .before .before .before .before) .inside in omega arith
-
-add-start-2 : tie.Need-add-start-2
-add-start-2 c = let inside = obeyed-of (c .before .before .before .before .before) .inside in omega arith
-
-add-end : tie.Need-add-end
-add-end c = let inside = obeyed-of (c .before .before .before .before .before) .inside in omega arith
-
 sub-put : tie.Need-sub-put
-sub-put c = search needs
+sub-put c = obeyed-of (c .before .before .before .before .before .before) .replacement-ahead
 
 part-put-start : tie.Need-part-put-start
-part-put-start c = search needs
+part-put-start c = obeyed-of (c .before .before .before .before .before .before) .replacement-ahead
 
 part-put-end : tie.Need-part-put-end
-part-put-end c = let inside = obeyed-of (c .before .before .before .before .before .before) .inside in omega arith
+part-put-end c = obeyed-of (c .before .before .before .before .before .before) .inside
 
 put-requires : tie.Need-put-requires
 put-requires c κs = search needs
 
 add-t24 : tie.Need-add-t24
 add-t24 c =
-    let less = c .before .before .before .before .before .before .before .before .before in
-    let start = less .before .before .before .before .before .before .before .before .before .before in
-    let long = start .good .1 .1 .1 .1 .1 .1 .0 .0 in
+    let found = c .before .before .before .before .before .before .before .before .before .before in
+    let start = found .before .before .before .before .before .before .before .before .before in
     omega (
       arith,
       c .before .before .before .before .before .if4 .left,
-      less .less .ensures,
-      start .pre .1 .1 .1 .1 .1,
-      long,
+      c .before .before .before .before .before .before .before .before .before .less .ensures,
+      start .pre .1 .1 .1 .1,
+      start .good .1 .1 .1 .1 .1 .1 .0 .0,
     )
 
 same-length-5 : tie.Need-same-length-5
@@ -134,12 +132,9 @@ same-length-5 c = search needs
 
 returns-5 : tie.Need-returns-5
 returns-5 c =
-    let rule = c .before .before .before .before .before .before .before .before .before .before .before .tried-at .result in
-    let start = rule .place + 8 + rule .ending in
     let part = c .before .before .before .before .before .before .before .before .before .less .ensures in
-    let size : start + rule .replacement - start ≡ rule .replacement = omega arith in
     let room = rw part at (c .before .before .before .before .before .if4 .left) in
-    let stored = rw (size, part) at (c .before .before .put .ensures) in
+    let stored = rw part at (c .before .before .put .ensures) in
     rw part
     (obeyed-of (c .before .before .before .before .before .before .before .before .before .before) .replaced _
     (c .before .before .before .before .before .before .if3 .left) room stored)
@@ -148,30 +143,7 @@ pub walk-group-spec : {M : Type 1} → statement M
 walk-group-spec =
     tie.close
     (tie.spec
-    slice-reshare-prefix-deepest
-    slice-aggregate-deepest
-    deepest-requires
-    same-length
-    returns
-    slice-reshare-prefix-tried-at
-    slice-aggregate-tried-at
-    tried-at-requires
-    same-length-2
-    returns-2
-    less-requires
-    less-requires-2
-    same-length-3
-    returns-3
-    sub-if4
-    same-length-4
-    returns-4
-    add-start
-    add-start-2
-    add-end
-    sub-put
-    part-put-start
-    part-put-end
-    put-requires
-    add-t24
-    same-length-5
+    slice-reshare-prefix-deepest slice-aggregate-deepest deepest-requires same-length returns slice-reshare-prefix-tried-at
+    slice-aggregate-tried-at tried-at-requires same-length-2 returns-2 sub-less less-requires less-requires-2 same-length-3
+    returns-3 sub-added sub-if4 same-length-4 returns-4 sub-put part-put-start part-put-end put-requires add-t24 same-length-5
     returns-5)

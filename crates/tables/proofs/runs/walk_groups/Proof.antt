@@ -1,5 +1,5 @@
 -- `tables::runs::walk_groups` meets its contract. The loop's invariant: the groups that are left decide, on the letters that
--- are left. Assumes nothing.
+-- are left.
 use Prim.Native.Nat.{_-_, _≤_}
 use mathlib.Core.Path.{_≡_, refl, sym, _∙_}
 use native.Mathlib.Omega.{arith}
@@ -8,30 +8,22 @@ use borrow.Author.Needs.{needs}
 use borrow.Author.Tests.{not-true, not-false}
 use Rattle.siblings.specs.Children.{nodesIn}
 use Rattle.sheets.specs.SheetPlaces.{GroupNext, RuleNext, never-over, never-alone, group-next, rule-next}
-use Rattle.tables.specs.WalkingLaws.{
-  Walking,
-  walking-start,
-  walking-readable,
-  walking-step,
-  walking-outgrown,
-  walking-skip,
-  walking-rule,
-  walking-end,
-}
+use Rattle.tables.specs.WalkingLaws.{Walking, walking-start, walking-readable, walking-step, walking-outgrown, walking-skip}
+use Rattle.tables.specs.WalkingLaws.{walking-rule, walking-end}
 use Rattle.tables.proofs.runs.walk_groups.Statement.{statement}
 use Rattle.tables.proofs.runs.walk_groups.Tie as tie
 
 abbrev Inv-loop : tie.InvT-loop
-Inv-loop sheet table word₀ at₀ next₀ rules₀ opened₀ size₀ word at next rules opened size =
+Inv-loop sheet table word₀ at₀ groups₀ rules₀ opened₀ size₀ word at groups rules opened size =
     (at ≤ length sheet)
-    × (next ≤ 16)
+    × (groups ≤ 16)
     × (rules ≤ 128)
     × (size ≤ length word)
     × (length word ≡ length word₀)
-    × Walking (nodesIn table) sheet word₀ at next rules opened (take size word)
+    × Walking (nodesIn table) sheet word₀ at groups rules opened (take size word)
 
 abbrev μ-loop : tie.MeasureT-loop
-μ-loop sheet table word₀ at₀ next₀ rules₀ opened₀ size₀ word at next rules opened size = length sheet - at
+μ-loop sheet table word₀ at₀ groups₀ rules₀ opened₀ size₀ word at groups rules opened size = length sheet - at
 
 loop-holds : tie.Need-loop-holds Inv-loop μ-loop
 loop-holds c =
@@ -41,8 +33,7 @@ loop-holds c =
       omega arith,
       omega arith,
       refl,
-      walking-start (nodesIn (a .table .now)) (a .sheet .now)
-          (a .word .now) (c .before .before .before .pre),
+      walking-start (nodesIn (a .table .now)) (a .sheet .now) (a .word .now) (c .before .before .before .pre),
     )
 
 draw-requires : tie.Need-draw-requires Inv-loop μ-loop
@@ -53,24 +44,20 @@ enum-known-found c = search needs
 
 -- a group was drawn, and this stands after it
 group-of : (c : tie.After-known-told Inv-loop μ-loop)
-    → GroupNext (c .before .before .before .before .before .loop .inv .5 .holds) (c .before .found .given .0 .0)
+    → (let given = c .before .found .given .0 in
+    GroupNext (c .before .before .before .before .before .loop .inv .5 .holds) (given .0) (given .1 .0))
 group-of c =
     group-next (c .before .before .before .before .before .loop .inv .5 .holds)
     (sym (c .before .before .before .draw .ensures) ∙ c .before .found .given .1)
 
-add-at : tie.Need-add-at Inv-loop μ-loop
-add-at c = let inside = group-of c .inside in omega arith
-
-add-next : tie.Need-add-next Inv-loop μ-loop
-add-next c = let few = group-of c .few in omega arith
+add-groups : tie.Need-add-groups Inv-loop μ-loop
+add-groups c = let few = group-of c .few in omega arith
 
 walk-group-requires : tie.Need-walk-group-requires Inv-loop μ-loop
 walk-group-requires c κs =
     let turn = c .before .before .before .before .before .before .before .loop in
-    let next = group-of (c .before .before) in (
-      walking-readable (turn .inv .5) next,
-      (omega arith, (next .inside, (turn .inv .2, (omega (arith, turn .inv .1), turn .inv .3)))),
-    )
+    let next = group-of (c .before .before) in
+    (walking-readable (turn .inv .5) next, (next .inside, (turn .inv .2, (omega (arith, turn .inv .1), turn .inv .3))))
 
 same-length : tie.Need-same-length Inv-loop μ-loop
 same-length c = c .before .before .before .before .walk-group .kept .1 .1 .1 .1 .1 .1 .0
@@ -78,19 +65,20 @@ same-length c = c .before .before .before .before .walk-group .kept .1 .1 .1 .1 
 
 returns : tie.Need-returns Inv-loop μ-loop
 returns c =
-    let turn = c .before .before .before .before .before .before .before .before .before .before .before .before .loop in
-    let next = group-of (c .before .before .before .before .before .before .before) in
+    let known = c .before .before .before .before .before .before .before in
+    let turn = known .before .before .before .before .before .loop in
     let runs = c .before .before .before .before .before .before .if1 .taken in
     let stepped = rw (turn .inv .4) at (c .before .before .before .before .walk-group .ensures) in
-    walking-outgrown (turn .inv .5) next _ _ _ _ runs stepped (not-true _ (c .if2 .taken))
+    walking-outgrown (turn .inv .5) (group-of known) _ _ _ _ runs stepped (not-true _ (c .if2 .taken))
 
 loop-less : tie.Need-loop-less Inv-loop μ-loop
-loop-less c = let inside = group-of (c .before .before .before .before .before .before .before) .inside in omega arith
+loop-less c = let next = group-of (c .before .before .before .before .before .before .before) in omega (arith, next .forward, next .inside)
 
 loop-again : tie.Need-loop-again Inv-loop μ-loop
 loop-again c =
-    let turn = c .before .before .before .before .before .before .before .before .before .before .before .before .loop in
-    let next = group-of (c .before .before .before .before .before .before .before) in
+    let known = c .before .before .before .before .before .before .before in
+    let turn = known .before .before .before .before .before .loop in
+    let next = group-of known in
     let kept = c .before .before .before .before .walk-group .kept .1 .1 .1 .1 .1 .1 .0 in
     let fits = not-false _ (c .if2 .left) in
     let left = c .before .before .before .before .walk-group .ensures .letters fits in
@@ -105,7 +93,7 @@ loop-again c =
     )
 
 loop-less-2 : tie.Need-loop-less-2 Inv-loop μ-loop
-loop-less-2 c = let inside = group-of (c .before) .inside in omega arith
+loop-less-2 c = let next = group-of (c .before) in omega (arith, next .forward, next .inside)
 
 loop-again-2 : tie.Need-loop-again-2 Inv-loop μ-loop
 loop-again-2 c =
@@ -119,8 +107,9 @@ enum-known-found-2 c = search needs
 
 -- a rule was drawn, and this stands after it
 rule-of : (c : tie.After-known-told2 Inv-loop μ-loop)
-    → (let numbers = c .before .found2 .given .0 in
-    RuleNext (c .before .before .before .before .before .loop .inv .5 .holds) (numbers .1 .1 .1 .0) (numbers .1 .1 .1 .1 .0))
+    → (let given = c .before .found2 .given .0 in
+    RuleNext (c .before .before .before .before .before .loop .inv .5 .holds) (given .0) (given .1 .0) (given .1 .1 .0)
+    (given .1 .1 .1 .0) (given .1 .1 .1 .1 .0) (given .1 .1 .1 .1 .1 .0))
 rule-of c =
     rule-next (c .before .before .before .before .before .loop .inv .5 .holds)
     (sym (c .before .before .before .draw .ensures) ∙ c .before .found2 .given .1)
@@ -128,23 +117,14 @@ rule-of c =
 add-rules : tie.Need-add-rules Inv-loop μ-loop
 add-rules c = let few = rule-of c .few in omega arith
 
-add-at-2 : tie.Need-add-at-2 Inv-loop μ-loop
-add-at-2 c = let inside = rule-of c .inside in omega arith
-
-add-at-3 : tie.Need-add-at-3 Inv-loop μ-loop
-add-at-3 c = let inside = rule-of c .inside in omega arith
-
-add-at-4 : tie.Need-add-at-4 Inv-loop μ-loop
-add-at-4 c = let inside = rule-of c .inside in omega arith
-
 loop-less-3 : tie.Need-loop-less-3 Inv-loop μ-loop
-loop-less-3 c = let inside = rule-of c .inside in omega arith
+loop-less-3 c = let next = rule-of c in omega (arith, next .forward, next .facts .inside)
 
 loop-again-3 : tie.Need-loop-again-3 Inv-loop μ-loop
 loop-again-3 c =
     let turn = c .before .before .before .before .before .loop in
     let next = rule-of c in
-    (next .inside, turn .inv .1, omega (arith, next .few), turn .inv .3, turn .inv .4, walking-rule (turn .inv .5) next)
+    (next .facts .inside, turn .inv .1, omega (arith, next .few), turn .inv .3, turn .inv .4, walking-rule (turn .inv .5) next)
 
 enum-told : tie.Need-enum-told Inv-loop μ-loop
 enum-told c = search needs
@@ -179,32 +159,6 @@ pub walk-groups-spec : {M : Type 1} → statement M
 walk-groups-spec =
     tie.close
     (tie.spec
-    Inv-loop
-    μ-loop
-    loop-holds
-    draw-requires
-    enum-known-found
-    add-at
-    add-next
-    walk-group-requires
-    same-length
-    returns
-    loop-less
-    loop-again
-    loop-less-2
-    loop-again-2
-    enum-known-found-2
-    add-rules
-    add-at-2
-    add-at-3
-    add-at-4
-    loop-less-3
-    loop-again-3
-    enum-told
-    same-length-2
-    returns-2
-    enum-told-2
-    same-length-3
-    returns-3
-    same-length-4
-    returns-4)
+    Inv-loop μ-loop loop-holds draw-requires enum-known-found add-groups walk-group-requires same-length returns loop-less
+    loop-again loop-less-2 loop-again-2 enum-known-found-2 add-rules loop-less-3 loop-again-3 enum-told same-length-2 returns-2
+    enum-told-2 same-length-3 returns-3 same-length-4 returns-4)

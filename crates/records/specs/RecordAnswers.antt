@@ -1,0 +1,31 @@
+-- What the code's enum `Record` means: the record at a place of a sheet, judged by itself, with the places of its letters and
+-- of the next record.
+use Prim.Native.Nat.{ℕ, _+_}
+use mathlib.Core.Bool.{cond}
+use mathlib.Core.List.{List}
+use lib.ListN.{length, drop}
+use Rattle.records.specs.Framing.{kind, body, cut, bodyPlace}
+use Rattle.records.specs.Records.{gateNumber, condition, actionNumber, opensNumber, endingPlace, replacementPlace}
+use Rattle.records.specs.Records.{faultyGroup, faultyRule, faultyEnd, byKind}
+use Rattle.records.specs.declared.Record.{Record}
+use Rattle.records.specs.declared.Record.the-variants.{Group, Rule, End, Faulty}
+
+-- a group and a rule, whose body starts at this place
+unfoldable pub groupRecord : ℕ → List ℕ → Record
+groupRecord place body = cond (faultyGroup body) Faulty (Group (gateNumber body) (place + length body))
+
+unfoldable pub ruleRecord : ℕ → List ℕ → Record
+ruleRecord place body =
+    cond (faultyRule body) Faulty
+    (Rule (condition body) (actionNumber body) (opensNumber body) (endingPlace place) (replacementPlace place body)
+    (place + length body))
+
+unfoldable pub endRecord : List ℕ → Record
+endRecord rest = cond (faultyEnd rest) Faulty End
+
+unfoldable pub recordAt : List ℕ → ℕ → Record
+recordAt sheet at =
+    let rest = drop at sheet in
+    let place = bodyPlace at in
+    cond (cut rest) Faulty
+    (byKind (kind rest) (groupRecord place (body rest)) (ruleRecord place (body rest)) (endRecord rest) Faulty)
