@@ -1,4 +1,4 @@
--- The class table holds the class of every letter, and no byte outside a to z is a vowel. Assumes nothing.
+-- The class table holds the class of every letter, and no byte outside a to z is a vowel.
 use Prim.Native.Nat.{ℕ, zero, suc, _+_, _-_, _≤_, _<_}
 use native.Mathlib.Nat.{le-of-suc-le-suc, not-suc-le-zero}
 use native.Mathlib.Omega.{arith}

@@ -1,4 +1,4 @@
--- One letter more in a forward scan. Assumes nothing.
+-- One letter more in a forward scan.
 use Prim.Native.Nat.{ℕ, _+_, _^_, _<_, _≤_}
 use native.Mathlib.Numerals.{add-one}
 use native.Mathlib.Omega.{arith}
@@ -8,19 +8,8 @@ use lib.Dec.{eqb}
 use lib.ListN.{length, take, drop, getD, take-append-drop}
 use lib.Seq.{take-suc, take-all}
 use mathlib.Core.List.{List, [], _∷_, _++_}
-use Rattle.paper.specs.Letters.{
-  Class,
-  none,
-  consonant,
-  vowel,
-  isConsonant,
-  isVowel,
-  vowelAfter,
-  classAfter,
-  classAt,
-  rise,
-  measure as measureOf,
-}
+use Rattle.paper.specs.Letters.{Class, none, consonant, vowel, isConsonant, isVowel, vowelAfter, classAfter, classAt, rise}
+use Rattle.paper.specs.Letters.{measure as measureOf}
 use Rattle.paper.specs.Conditions.{*v*}
 use Rattle.paper.specs.LettersLaws.{classAt-more, classAt-earlier, measure-more, vowel-more, measure-grows, vowel-stays}
 use Rattle.letters.specs.Scan.{beforeRow, rowAfter, classNumber, classTable, Scanned}
@@ -107,7 +96,7 @@ vowel-number vowel = refl
 pub beyond : {n : ℕ} (k : ℕ) → k ≤ n → (n ≡ k → ⊥) → k + 1 ≤ n
 beyond k low other = omega arith
 
--- ══ The loop of a scan ══
+-- ## The loop of a scan
 
 -- at the loop's head: so many letters were passed
 abbrev pub Passing : List ℕ → List (List Bool) → Passed → ℕ → Type 0

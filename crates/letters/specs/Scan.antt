@@ -1,19 +1,9 @@
--- What the forward scan of `letters` keeps, said of the letters passed. Assumes nothing.
+-- What the forward scan of `letters` keeps, said of the letters passed.
 use Prim.Native.Nat.{ℕ, zero, suc}
 use mathlib.Core.Path.{_≡_}
 use mathlib.Core.Bool.{Bool, cond}
 use mathlib.Core.List.{List, [], _∷_, map}
-use Rattle.paper.specs.Letters.{
-  letters,
-  Class,
-  none,
-  consonant,
-  vowel,
-  isConsonant,
-  vowelAfter,
-  classAt,
-  measure as measureOf,
-}
+use Rattle.paper.specs.Letters.{letters, Class, none, consonant, vowel, isConsonant, vowelAfter, classAt, measure as measureOf}
 use Rattle.paper.specs.Conditions.{*v*}
 use Rattle.letters.specs.declared.Passed.{Passed}
 

@@ -12,7 +12,7 @@ use Rattle.texts.specs.Texts.{textOutcome}
 use Rattle.texts.specs.OutcomeLaws.{number-within, counts-within}
 use Rattle.lunarbugle.specs.Packed.{packed, packedText}
 
--- Of a word, and of a text.
+-- ## Of a word, and of a text
 
 module _ (rule : List ℕ → Reading) where
   module _ (never : NeverLengthens rule) (word : List ℕ) where

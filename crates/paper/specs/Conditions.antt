@@ -1,4 +1,4 @@
--- Document 01, "Letters, measure, conditions": the nine conditions with their numbers. Assumes nothing.
+-- Document 01, "Letters, measure, conditions": the nine conditions with their numbers.
 use Prim.Native.Nat.{ℕ}
 use Prim.Native.Char.{Char, code}
 use mathlib.Core.Bool.{Bool, true, false, not, _&&_, _||_}

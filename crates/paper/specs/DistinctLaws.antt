@@ -1,4 +1,4 @@
--- How many of a list of tails are distinct does not depend on their order. Assumes nothing.
+-- How many of a list of tails are distinct does not depend on their order.
 use Prim.Native.Nat.{ℕ}
 use mathlib.Core.Path.{_≡_, refl, ap, _∙_}
 use mathlib.Core.Bool.{or-true}
@@ -33,7 +33,8 @@ pub distinct-append : (left right : List (List ℕ)) → ((seen : List (List ℕ
     → (seen front : List (List ℕ)) → distinct seen (front ++ left) ≡ distinct seen (front ++ right)
 unfolding distinct
 distinct-append left right e seen [] = e seen
-distinct-append left right e seen (one ∷ front) = rw (distinct-append left right e seen front, distinct-append left right e (one ∷ seen) front)
+distinct-append left right e seen
+    (one ∷ front) = rw (distinct-append left right e seen front, distinct-append left right e (one ∷ seen) front)
 
 -- the tails of an ending, the shortest first
 unfoldable pub ascending : List ℕ → List (List ℕ)

@@ -1,5 +1,5 @@
 -- Document 01, "Letters, measure, conditions": the class of a letter, and the measure. A part of a word is a list of
--- bytes. Assumes nothing.
+-- bytes.
 use Prim.Native.Nat.{ℕ, _+_}
 use Prim.Native.Char.{code}
 use Prim.Native.String.{String}

@@ -1,5 +1,5 @@
 -- What one letter more does to the class of the last letters, the measure and `*v*`: how a forward scan follows the
--- definitions. Assumes nothing.
+-- definitions.
 use Prim.Native.Nat.{ℕ, suc, _+_, _-_, _≤_, _<_}
 use native.Mathlib.Nat.{not-suc-le-zero, le-refl}
 use native.Mathlib.Decide.{decLt}

@@ -1,5 +1,5 @@
 -- The node count by looking back: a rule brings as many nodes as its ending is longer than the longest tail that it shares
--- with an earlier ending of its group. Assumes nothing.
+-- with an earlier ending of its group.
 use Prim.Native.Nat.{ℕ, suc, _+_, _-_, _≤_, _<_, max}
 use mathlib.Core.Path.{_≡_, refl, sym, ap, _∙_}
 use mathlib.Core.Bool.{Bool, true, false, cond, _||_, false≢true, or-true, or-false, or-comm}

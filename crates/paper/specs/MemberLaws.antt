@@ -1,4 +1,4 @@
--- Laws of the tails that stand among others, and of how many of them are distinct. Assumes nothing.
+-- Laws of the tails that stand among others, and of how many of them are distinct.
 use Prim.Native.Nat.{ℕ}
 use mathlib.Core.Path.{_≡_, refl, sym, _∙_}
 use mathlib.Core.Bool.{Bool, true, _||_, false≢true, or-assoc, or-comm}

@@ -1,4 +1,4 @@
--- How many nodes the table of some groups has: document 01, "The table". Assumes nothing.
+-- How many nodes the table of some groups has: document 01, "The table".
 use Prim.Native.Nat.{ℕ, suc, _+_}
 use mathlib.Core.Bool.{Bool, false, cond, _||_}
 use mathlib.Core.List.{List, [], _∷_, _++_}

@@ -1,4 +1,4 @@
--- Laws of `numberOf`, the number of the first that passes a test. Assumes nothing.
+-- Laws of `numberOf`, the number of the first that passes a test.
 use Prim.Native.Nat.{ℕ, suc, _+_, _<_, _≤_}
 use mathlib.Core.Path.{_≡_, refl, _∙_}
 use mathlib.Core.Bool.{Bool, true, false}
@@ -29,9 +29,10 @@ module _ {A : Type 0} where
   number-none f k one more h e =
       by-test (f one) (λ p. let z : k ≡ 0 = rw p at e in absurd (omega arith)) (λ p. p)
 
-  -- One more at the end
+  -- ## One more at the end
 
-  pub number-kept : (f : A → Bool) (k : ℕ) (list : List A) (last : A) → f last ≡ false → numberOf f k (list ++ last ∷ []) ≡ numberOf f k list
+  pub number-kept : (f : A → Bool) (k : ℕ) (list : List A) (last : A) → f last ≡ false
+      → numberOf f k (list ++ last ∷ []) ≡ numberOf f k list
   unfolding numberOf
   number-kept f k [] last e = rw e
   number-kept f k (one ∷ more) last e = rw (number-kept f (suc k) more last e)
@@ -51,7 +52,7 @@ module _ {A : Type 0} where
       let p = number-none f k first (front ++ one ∷ back) h e in
       number-some f (suc k) front one back t (omega arith) (rw p at e)
 
-  -- Of all in a list
+  -- ## Of all in a list
 
   abbrev pub Every : (A → Type 0) → List A → Type 0
   Every P [] = Unit {0}

@@ -1,4 +1,4 @@
--- How long the longest tail is that two endings share, found from the last letter inward. Assumes nothing.
+-- How long the longest tail is that two endings share, found from the last letter inward.
 use Prim.Native.Nat.{ℕ, zero, suc, _+_, _-_, _≤_, _<_}
 use mathlib.Core.Path.{_≡_, refl, sym, ap, _∙_}
 use mathlib.Core.Bool.{Bool, true, false, false≢true, or-true}

@@ -1,4 +1,4 @@
--- Document 01, "The shipped rules: nine groups, 62 rules", as 01 writes them. Assumes nothing.
+-- Document 01, "The shipped rules: nine groups, 62 rules", as 01 writes them.
 use Prim.Native.Nat.{ℕ}
 use Prim.Native.String.{String}
 use mathlib.Core.Bool.{true, false}

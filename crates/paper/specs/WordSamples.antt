@@ -4,18 +4,7 @@ use Prim.Native.Nat.{ℕ}
 use Prim.Native.String.{String}
 use mathlib.Core.Path.{_≡_, refl}
 use mathlib.Core.List.{List, [], _∷_, map}
-use Rattle.paper.specs.Letters.{
-  letters,
-  among,
-  vowelAfter,
-  classAfter,
-  inward,
-  classOf,
-  letterAt,
-  classAt,
-  rises,
-  measure,
-}
+use Rattle.paper.specs.Letters.{letters, among, vowelAfter, classAfter, inward, classOf, letterAt, classAt, rises, measure}
 use Rattle.paper.specs.Conditions.{someVowel, *v*, *d, *o, lastIs, conditions, holds}
 use Rattle.paper.specs.Groups.{done, same, endsWith, before, which, first, fitting, longest, chosen, obeyed, act}
 use Rattle.paper.specs.Groups.{result, opensNext, steps, reading}

@@ -31,7 +31,7 @@ LongestRuns [] = Unit {0}
 LongestRuns (word letters ∷ rest) = IsWord letters × (startsWithWord rest ≡ false) × LongestRuns rest
 LongestRuns (other byte ∷ rest) = (isLetter byte ≡ false) × LongestRuns rest
 
--- The letters that a text begins with are a word.
+-- ## The letters that a text begins with are a word
 
 all-leading : (text : List ℕ) → allLetters (leading text) ≡ true
 unfolding leading allLetters
@@ -45,7 +45,7 @@ all-leading (byte ∷ bytes) = go (all-leading bytes) (isLetter byte) refl
 pub leading-word : (text : List ℕ) → 0 < length (leading text) → IsWord (leading text)
 leading-word text some = record { some = some; all = all-leading text }
 
--- The pieces of a text are longest runs.
+-- ## The pieces of a text are longest runs
 
 longer : (letter : ℕ) (rest : List Piece) → isLetter letter ≡ true → LongestRuns rest → LongestRuns (withLetter letter rest)
 unfolding withLetter allLetters
@@ -62,7 +62,7 @@ pieces-longest (byte ∷ bytes) = go (pieces-longest bytes) (isLetter byte) refl
     go runs true letter = rw (pieces-letter byte bytes letter) (longer byte (pieces bytes) letter runs)
     go runs false separates = rw (pieces-other byte bytes separates) (separates, runs)
 
--- Whatever list of pieces is the text and has longest runs is the text's pieces.
+-- ## Whatever list of pieces is the text and has longest runs is the text's pieces
 
 alone : (letter : ℕ) (letters : List ℕ) → allLetters (letter ∷ letters) ≡ true
     → pieces (letter ∷ letters) ≡ word (letter ∷ letters) ∷ []

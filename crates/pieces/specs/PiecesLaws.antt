@@ -19,7 +19,7 @@ unfoldable pub joined : List Piece → List ℕ
 joined [] = []
 joined (piece ∷ pieces) = bytesOf piece ++ joined pieces
 
--- The pieces are the text.
+-- ## The pieces are the text
 
 joined-withLetter : (letter : ℕ) (rest : List Piece) → joined (withLetter letter rest) ≡ letter ∷ joined rest
 unfolding joined withLetter
@@ -39,7 +39,7 @@ joined-pieces [] = refl
 joined-pieces (byte ∷ bytes) =
     joined-step (isLetter byte) byte (pieces bytes) ∙ ap (λ (l : List ℕ). byte ∷ l) (joined-pieces bytes)
 
--- A text that begins with a letter begins with the word of its leading letters.
+-- ## A text that begins with a letter begins with the word of its leading letters
 
 pub pieces-letter : (byte : ℕ) (bytes : List ℕ) → isLetter byte ≡ true
     → pieces (byte ∷ bytes) ≡ withLetter byte (pieces bytes)
@@ -89,7 +89,7 @@ leading-stands text =
 pub leading-within : (text : List ℕ) → length (leading text) ≤ length text
 leading-within text = omega (arith, simp length-append at (ap length (leading-first text)))
 
--- A text may be cut at any place that is not inside a word: its pieces are those of the two parts.
+-- ## A text may be cut at any place that is not inside a word: its pieces are those of the two parts
 
 -- the text is empty, or its first byte separates; the same of its last byte
 abbrev pub startsOutside : List ℕ → Bool

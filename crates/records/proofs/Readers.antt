@@ -1,5 +1,5 @@
 -- The reader as the proofs of its functions name it, and the two ways in which these are called: with a reader, and with a
--- sheet and a place. Assumes nothing.
+-- sheet and a place.
 use mathlib.Core.Path.{_≡_, refl}
 use mathlib.Core.List.{List, [], _∷_}
 use Prim.Native.Nat.{ℕ}
@@ -30,7 +30,7 @@ use Rattle.records.proofs.reader.Reader as holder
 use Rattle.records.proofs.reader.Reader.Laws as laws
 use Rattle.records.proofs.Record as drawn
 
--- ══ What is owned ══
+-- ## What is owned
 
 -- a reader, over the one lifetime of a signature
 abbrev pub Held : Lfts 1 → RattleType
@@ -80,7 +80,7 @@ module _ {M : Type 1} (𝓤 : URA M) (H : Heap 𝓤) (A : Atoms 𝓤) (W : Given
       → WT (value reader)
   parts-fit are = (shr-slice-lawful 𝓤 H A W (named 0) κ u8 .typed (reader .sheet) _ (are .0) .0 .1, (record { fits = are .1 .0 .1 }, tt))
 
--- ══ What is passed, returned and ensured ══
+-- ## What is passed, returned and ensured
 abbrev pub a-reader : Slot 1
 a-reader = plain Held
 

@@ -1,4 +1,4 @@
--- A function that is passed a reader and returns one of its fields: a walk of its MIR, by hand, for any field. Assumes nothing.
+-- A function that is passed a reader and returns one of its fields: a walk of its MIR, by hand, for any field.
 use mathlib.Core.Path.{_≡_, refl}
 use mathlib.Core.List.{[], _∷_}
 use mathlib.Core.Option.{some}
@@ -15,26 +15,8 @@ use prog.Wp.{Heap, Calls, Loops}
 use ghost.Atoms.{Atoms, sem}
 use types.Kit.{Given, ‵, _$_, _∵_, !, qed, by, move, use1}
 use types.Part.{whole, sub, look-in}
-use types.Run.{
-  look,
-  init,
-  forget,
-  stop,
-  fld,
-  from,
-  load,
-  of-opd,
-  assigns,
-  returns,
-  enter,
-  alloc1,
-  alloc0,
-  params1,
-  pass1,
-  pass0,
-  free1,
-  free0,
-}
+use types.Run.{look, init, forget, stop, fld, from, load, of-opd, assigns, returns, enter, alloc1, alloc0, params1, pass1, pass0, free1}
+use types.Run.{free0}
 use denote.Signature.{Slot}
 use Rattle.records.specs.declared.reader.Reader.{Reader}
 use Rattle.records.proofs.Ensured.{Fact, token, Walk, leaves}

@@ -1,5 +1,5 @@
 -- Any two readers that the contract of `made` allows are equal: it gives the two fields by an equation each. The other
--- contracts of this crate are an equation, which `settled` of `paper` settles. Assumes nothing.
+-- contracts of this crate are an equation, which `settled` of `paper` settles.
 use Prim.Native.Nat.{ℕ}
 use mathlib.Core.Path.{_≡_}
 use mathlib.Core.List.{List}

@@ -1,4 +1,4 @@
--- Where a chain ends: at the parent's own link where it has no child, and else at the last child's. Assumes nothing.
+-- Where a chain ends: at the parent's own link where it has no child, and else at the last child's.
 use Prim.Native.Nat.{ℕ, zero, suc, _+_, _*_, _≤_, _<_}
 use mathlib.Core.Path.{_≡_, refl, _∙_}
 use mathlib.Core.Bool.{true, false}
@@ -34,7 +34,8 @@ after-other : (nodes : List Node) (parent one : Node) (later : List Node) (link 
 after-other nodes parent one later link place p (no-more e q) = no-more (p, e) q
 after-other nodes parent one later link place p (last-child front last back s h e q) = last-child front last back s h e q
 
-chain-ends : (nodes rules : List Node) (parent : Node) (steps : ℕ) (before later : List Node) (link : ℕ) → before ++ later ≡ nodes → 0 < length before
+chain-ends : (nodes rules : List Node) (parent : Node) (steps : ℕ) (before later : List Node) (link : ℕ) → before ++ later ≡ nodes
+    → 0 < length before
     → length later ≤ steps → getD (rows nodes rules 0 nodes) link 0 ≡ numberOf (isChild parent) (length before) later
     → Ends nodes parent later link (chainEnd steps (rows nodes rules 0 nodes) link)
 unfolding chainEnd numberOf
@@ -51,7 +52,8 @@ chain-ends nodes rules parent (suc steps) before (one ∷ later) link split h l 
     let siblings = number-cong (isSibling (one .group) (one .tail)) (isChild parent) (child-siblings parent (one .group)
     (one .tail) p) (suc (length before)) later in
     let next = next-sibling-at nodes rules before one later split ∙ siblings in
-    let on = chain-ends nodes rules parent steps (before ++ one ∷ []) later (4 * length before + 2) moved beyond (omega arith) (rw passed next) in
+    let on = chain-ends nodes rules parent steps (before ++ one ∷ []) later (4 * length before + 2) moved beyond (omega arith)
+    (rw passed next) in
     after-child nodes parent before one later link _ split p (rw (read, ne-eqb (length before) 0 (λ z. omega arith)) on))
     (λ p. after-other nodes parent one later link _ p
     (chain-ends nodes rules parent (suc steps) (before ++ one ∷ []) later link moved beyond (omega arith) (rw passed (rw p at e))))

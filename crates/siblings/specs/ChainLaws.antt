@@ -1,5 +1,5 @@
 -- What the four numbers of a node lead to: a chain holds the children of its parent, in their order of creation, and looking
--- for a letter in it is looking for the node with that letter. Assumes nothing.
+-- for a letter in it is looking for the node with that letter.
 use Prim.Native.Nat.{ℕ, zero, suc, _+_, _*_, _≤_, _<_}
 use mathlib.Core.Path.{_≡_, refl, sym, ap, _∙_}
 use mathlib.Core.List.{List, [], _∷_, _++_, append-assoc}
@@ -30,7 +30,7 @@ rows-drop nodes rules number (one ∷ before) later =
     let next : number + suc (length before) ≡ suc number + length before = omega arith in
     rw (four, next) (rows-drop nodes rules (suc number) before later)
 
--- The four numbers of the node that stands after `before`
+-- ## The four numbers of the node that stands after `before`
 
 module _ (nodes rules before : List Node) (one : Node) (later : List Node) (split : before ++ one ∷ later ≡ nodes) where
   column : (i : ℕ) → getD (rows nodes rules 0 nodes) (4 * length before + i) 0 ≡ getD (rows nodes rules (length before) (one ∷ later)) i 0

@@ -1,4 +1,4 @@
--- The table has four numbers for each node that the node count counts. Assumes nothing.
+-- The table has four numbers for each node that the node count counts.
 use Prim.Native.Nat.{ℕ, suc, _+_, _*_, _≤_}
 use mathlib.Core.Path.{_≡_, refl, ap, _∙_}
 use mathlib.Core.Bool.{true, false, cond, or-false, or-comm, or-true}
@@ -23,7 +23,7 @@ use Rattle.siblings.specs.TranslationFaithful.{roots-no-tail}
 abbrev Agree : ℕ → List Node → List (List ℕ) → Type 0
 Agree group nodes seen = (letter : ℕ) (parent : List ℕ) → present (node group (letter ∷ parent)) nodes ≡ member (letter ∷ parent) seen
 
--- Added on the way to one ending
+-- ## Added on the way to one ending
 
 member-ascending : (tail ending : List ℕ) → member tail (ascending ending) ≡ member tail (tails ending)
 unfolding ascending tails member
@@ -73,7 +73,8 @@ last-length whole last nodes left seen more =
         ∙ by-test (same tail whole) (λ q. rw (same-equal tail whole q, p, or-true)) (λ q. rw q)
 
 way-length : (group : ℕ) (ending : List ℕ) (nodes : List Node) (seen more : List (List ℕ)) → Agree group nodes seen
-    → length (added nodes (way group ending)) + distinct (ascending ending ++ seen) more ≡ length nodes + distinct seen (ascending ending ++ more)
+    → length (added nodes (way group ending)) + distinct (ascending ending ++ seen) more ≡ length nodes + distinct seen
+    (ascending ending ++ more)
 unfolding way added ascending
 way-length group [] nodes seen more agree = refl
 way-length group (letter ∷ parent) nodes seen more agree =
@@ -87,7 +88,7 @@ way-length group (letter ∷ parent) nodes seen more agree =
     )
     (last-length whole last (added nodes (way group parent)) (ascending parent) seen more ∙ rest)
 
--- Added for the rules of a group
+-- ## Added for the rules of a group
 
 rules-length : (group : ℕ) (rules : List Rule) (nodes : List Node) (seen : List (List ℕ)) → Agree group nodes seen
     → length (grown nodes (map (λ rule. node group (rule .ending)) rules)) ≡ length nodes + distinct seen (ascendingOf rules)
@@ -98,7 +99,7 @@ rules-length group (rule ∷ rules) nodes seen agree =
     (way-agrees group (rule .ending) nodes seen agree)
     ∙ way-length group (rule .ending) nodes seen (ascendingOf rules) agree
 
--- Added for all groups
+-- ## Added for all groups
 
 grown-append : (nodes left right : List Node) → grown nodes (left ++ right) ≡ grown (grown nodes left) right
 unfolding grown
@@ -116,7 +117,12 @@ groups-length number (group ∷ groups) nodes none =
     let counted = distinct-rules [] (group .rules) in
     let rest = groups-length (suc number) groups (grown nodes own) (λ one h letter parent.
     present-grown (node one (letter ∷ parent)) nodes own
-    ∙ rw (none one (omega arith) letter parent, ways-group one letter parent number (group .rules), ne-eqb one number (λ e. omega arith))) in
+    ∙ rw (
+      none one (omega arith) letter parent,
+      ways-group one letter parent number (group .rules),
+      ne-eqb one number
+          (λ e. omega arith),
+    )) in
     rw (grown-append nodes own (ends (suc number) groups)) (omega arith)
 
 pub roots-length : (number : ℕ) (groups : List Group) → length (roots number groups) ≡ length groups

@@ -1,4 +1,4 @@
--- What entering the ending of one rule does to the numbers of a table. Assumes nothing.
+-- What entering the ending of one rule does to the numbers of a table.
 use Prim.Native.Nat.{ℕ, _+_, _*_, _≤_}
 use mathlib.Core.Path.{_≡_, refl, ap, _∙_}
 use mathlib.Core.Bool.{cond}

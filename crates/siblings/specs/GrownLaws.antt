@@ -1,4 +1,4 @@
--- Which nodes the rules add. Assumes nothing.
+-- Which nodes the rules add.
 use Prim.Native.Nat.{ℕ}
 use mathlib.Core.Path.{_≡_, sym, ap, _∙_}
 use mathlib.Core.Bool.{Bool, false, cond, _&&_, _||_, or-assoc, or-comm, or-false, and-or-distrib-left, and-false}

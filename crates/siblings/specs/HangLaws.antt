@@ -1,4 +1,4 @@
--- What one more node does to the rows: one link changes, and one row comes last. Assumes nothing.
+-- What one more node does to the rows: one link changes, and one row comes last.
 use Prim.Native.Nat.{ℕ, suc, _+_, _*_}
 use mathlib.Core.Path.{_≡_, refl, sym, ap, _∙_}
 use mathlib.Core.Bool.{true, false, false≢true}
@@ -47,9 +47,10 @@ module _ (nodes rules : List Node) (new : Node) where
       let next : number + suc (length front) ≡ suc number + length front = omega arith in
       rw (kept .0 .0, kept .0 .1, four, rows-changed column count last front back (suc number) (kept .1) (rw next at e))
 
--- The new node and its parent
+-- ## The new node and its parent
 
-pub only-parent : (parent : Node) (letter : ℕ) (one : Node) → isChild one (node (parent .group) (letter ∷ parent .tail)) ≡ sameNode one parent
+pub only-parent : (parent : Node) (letter : ℕ) (one : Node)
+    → isChild one (node (parent .group) (letter ∷ parent .tail)) ≡ sameNode one parent
 unfolding isChild oneMore sameNode
 only-parent parent letter one = refl
 
@@ -74,7 +75,7 @@ module _ (parent : Node) (letter : ℕ) where
   abbrev new-node : Node
   new-node = node (parent .group) (letter ∷ parent .tail)
 
-  -- A first child
+  -- ## A first child
 
   module _ (rules front back : List Node) (childless : Every (λ one. isChild parent one ≡ false) (front ++ parent ∷ back))
       (front-apart : Every (λ one. sameNode one parent ≡ false) front) (back-apart : Every (λ one. sameNode one parent ≡ false) back) where
@@ -109,7 +110,7 @@ module _ (parent : Node) (letter : ℕ) where
         (front-kept front (parent ∷ back) 0 front-apart (parts .0))
         (rw (children, siblings, after, zero-add (length nodes)))
 
-  -- A later child, after the last that there is
+  -- ## A later child, after the last that there is
 
   module _ (rules front : List Node) (last : Node) (back : List Node) (hangs : isChild parent last ≡ true)
       (last-one : Every (λ one. isChild parent one ≡ false) back)
@@ -142,7 +143,8 @@ module _ (parent : Node) (letter : ℕ) where
           before-kept list (suc number),
         )
 
-    after-kept : (list : List Node) (number : ℕ) → Every (λ one. isChild parent one ≡ false) list → KeptFront all rules new-node number list []
+    after-kept : (list : List Node) (number : ℕ) → Every (λ one. isChild parent one ≡ false) list
+        → KeptFront all rules new-node number list []
     after-kept [] number e = tt
     after-kept (one ∷ list) number e = (
       (
@@ -166,5 +168,6 @@ module _ (parent : Node) (letter : ℕ) where
         let siblings = number-last (isSibling (last .group) (last .tail)) here back new-node (no-sibling back last-one) beside in
         let counted : here + length back ≡ length all = omega (arith, length-append front (last ∷ back)) in
         let after = rows-kept all rules new-node here back (after-kept back here last-one) in
-        rows-changed all rules new-node 2 (length all) (last-row all rules new-node (length all)) front (last ∷ back) 0 (before-kept front 0)
+        rows-changed all rules new-node 2 (length all) (last-row all rules new-node (length all)) front (last ∷ back) 0
+        (before-kept front 0)
         (rw (child-kept last, siblings, counted, after, zero-add))

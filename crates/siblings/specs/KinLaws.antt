@@ -1,4 +1,4 @@
--- When two nodes are the same, parent and child, or siblings. Assumes nothing.
+-- When two nodes are the same, parent and child, or siblings.
 use Prim.Native.Nat.{ℕ}
 use mathlib.Core.Path.{_≡_, refl, sym, ap, ap₂, _∙_}
 use mathlib.Core.Bool.{true, false, _&&_, false≢true, and-true, and-false}
@@ -21,7 +21,7 @@ pub same-node-refl : (one : Node) → sameNode one one ≡ true
 unfolding sameNode
 same-node-refl one = and-both (eq-eqb (one .group) (one .group) refl) (same-itself (one .tail))
 
--- A child of a letter is the node whose tail has that letter before the parent's tail
+-- ## A child of a letter is the node whose tail has that letter before the parent's tail
 
 pub child-letter : (letter : ℕ) (parent : Node) (group : ℕ) (tail : List ℕ) → isChild parent (node group tail) ≡ true
     → sameNode (node (parent .group) (letter ∷ parent .tail)) (node group tail) ≡ eqb letter (letterOf tail)

@@ -1,5 +1,5 @@
 -- The translation on the numbers of a table, one step at a time, as code takes it. What these steps come to is shown in
--- LayingLaws. Assumes nothing.
+-- LayingLaws.
 use Prim.Native.Nat.{ℕ, zero, suc, _+_, _*_}
 use mathlib.Core.Bool.{cond}
 use mathlib.Core.List.{List, [], _∷_}

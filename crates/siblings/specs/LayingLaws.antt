@@ -1,4 +1,4 @@
--- What the steps of the translation come to: the numbers so far are the rows of the nodes so far. Assumes nothing.
+-- What the steps of the translation come to: the numbers so far are the rows of the nodes so far.
 use Prim.Native.Nat.{ℕ, suc, _+_, _*_, _≤_, _<_}
 use mathlib.Core.Path.{_≡_, refl, sym, ap, subst, _∙_}
 use mathlib.Core.Bool.{true, false, not, false≢true}
@@ -23,7 +23,7 @@ use Rattle.siblings.specs.Laying.{hung, endOf, Laying, grow}
 use Rattle.siblings.specs.ChainEndLaws.{Ends, no-more, last-child, parent-ends}
 use Rattle.siblings.specs.SoundLaws.{Distinct, Sound, absent-every, front-apart, back-apart, sound-node, new-row, present-last}
 
--- One link changes
+-- ## One link changes
 
 module _ (root : ℕ) (others rules before : List Node) (parent : Node) (later : List Node) (letter : ℕ)
     (split : before ++ parent ∷ later ≡ node root [] ∷ others) (sound : Sound (node root [] ∷ others) rules) where

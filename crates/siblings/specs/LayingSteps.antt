@@ -1,4 +1,4 @@
--- Laying a table out one step at a time, as a loop takes it. Assumes nothing.
+-- Laying a table out one step at a time, as a loop takes it.
 use Prim.Native.Nat.{ℕ, zero, suc, _+_, _*_, _-_, _<_, _≤_}
 use mathlib.Core.Path.{_≡_, refl, ap}
 use mathlib.Core.List.{List}
@@ -11,7 +11,7 @@ use Rattle.siblings.specs.Children.{letter, firstRule, child}
 use Rattle.siblings.specs.Laying.{chainEnd, endOf, hung, Laying, laying, grow, enter, note}
 use Rattle.walks.specs.WalkSteps.{inward-last}
 
--- The end of a chain
+-- ## The end of a chain
 
 pub end-here : (steps : ℕ) (table : List ℕ) (link : ℕ) → getD table link 0 ≡ 0 → chainEnd steps table link ≡ link
 unfolding chainEnd
@@ -31,7 +31,7 @@ unfolding chainEnd
 end-over zero table link h = refl
 end-over (suc steps) table link h = absurd (omega arith)
 
--- One letter of an ending, as a loop lays it
+-- ## One letter of an ending, as a loop lays it
 
 module _ (table : List ℕ) (count at letter one found : ℕ) (same-letter : one ≡ letter)
     (looked : found ≡ child (take (4 * count) table) at one) where
@@ -60,7 +60,7 @@ unfolding enter inward
 enter-over ending zero now h = refl
 enter-over ending (suc left) now h = absurd (omega arith)
 
--- The rule is noted, or the node holds one already
+-- ## The rule is noted, or the node holds one already
 
 pub note-new : (now whole : Laying) (rule read : ℕ) (stored : List ℕ) → now ≡ whole → read ≡ firstRule (now .table) (now .at) → read ≡ 0
     → stored ≡ set (now .table) (4 * now .at + 3) rule → stored ≡ note rule whole .table

@@ -1,4 +1,4 @@
--- Document 01, "The table": the nodes in their order of creation, and the four numbers of each. Assumes nothing.
+-- Document 01, "The table": the nodes in their order of creation, and the four numbers of each.
 use Prim.Native.Nat.{ℕ, suc}
 use mathlib.Core.Bool.{Bool, false, cond, _&&_, _||_}
 use mathlib.Core.List.{List, [], _∷_, _++_, map}

@@ -1,4 +1,4 @@
--- What one more rule does to the numbers of a table: its node holds it, if it held none. Assumes nothing.
+-- What one more rule does to the numbers of a table: its node holds it, if it held none.
 use Prim.Native.Nat.{ℕ, suc, _+_, _*_, _<_}
 use mathlib.Core.Path.{_≡_, refl, sym, ap, subst, _∙_}
 use mathlib.Core.Bool.{false}

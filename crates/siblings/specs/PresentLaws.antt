@@ -1,4 +1,4 @@
--- Where a node stands in a list of nodes. Assumes nothing.
+-- Where a node stands in a list of nodes.
 use Prim.Native.Nat.{ℕ, suc, _+_, _<_}
 use mathlib.Core.Path.{_≡_, refl, ap, _∙_}
 use mathlib.Core.Bool.{true, not, _||_, false≢true, or-assoc}

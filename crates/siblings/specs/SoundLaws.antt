@@ -1,5 +1,4 @@
 -- What the nodes so far and the rules so far always are: no node comes twice, each has its parent, and each rule its node.
--- Assumes nothing.
 use Prim.Native.Nat.{ℕ}
 use mathlib.Core.Path.{_≡_, refl, sym, _∙_}
 use mathlib.Core.Bool.{true, false, _||_, false≢true, or-false}
@@ -23,7 +22,8 @@ Distinct (one ∷ more) = (present one more ≡ false) × Distinct more
 
 pub record Sound (nodes rules : List Node) : Type 0 where
   pub distinct : Distinct nodes
-  pub closed : (group letter : ℕ) (parent : List ℕ) → present (node group (letter ∷ parent)) nodes ≡ true → present (node group parent) nodes ≡ true
+  pub closed : (group letter : ℕ) (parent : List ℕ) → present (node group (letter ∷ parent)) nodes ≡ true
+      → present (node group parent) nodes ≡ true
   pub ends-present : (one : Node) → present one nodes ≡ false → numberOf (sameNode one) 1 rules ≡ 0
 
 pub every-present : (P : Node → Type 0) (list : List Node) → ((one : Node) → present one list ≡ true → P one) → Every P list
@@ -95,7 +95,8 @@ module _ (nodes rules : List Node) (parent : Node) (letter : ℕ) (sound : Sound
       (λ p. or-left (present (node group tail) nodes) (sameNode (node group tail) new) (sound .closed group one tail p))
       (λ p.
       let own = new-child (node group tail) one in
-      let it = same-node-eq (node group tail) parent (sym (only-parent parent letter (node group tail)) ∙ rw (same-node-eq child new p) at own) in
+      let it = same-node-eq (node group tail) parent
+      (sym (only-parent parent letter (node group tail)) ∙ rw (same-node-eq child new p) at own) in
       or-left (present (node group tail) nodes) (sameNode (node group tail) new) (rw it there)))
 
   absent-before : (one : Node) → present one (nodes ++ new ∷ []) ≡ false → present one nodes ≡ false

@@ -1,4 +1,4 @@
--- Storing four numbers behind those of a table. Assumes nothing.
+-- Storing four numbers behind those of a table.
 use Prim.Native.Nat.{ℕ, suc, _+_, _*_, _≤_, _<_}
 use mathlib.Core.Path.{_≡_, refl, sym, ap, _∙_}
 use mathlib.Core.List.{List, [], _∷_, _++_, append-assoc}

@@ -1,4 +1,4 @@
--- Document 01's two examples of a table, and the length of the shipped sheet's. Assumes nothing.
+-- Document 01's two examples of a table, and the length of the shipped sheet's.
 use Prim.Native.Nat.{ℕ, _*_}
 use mathlib.Core.Path.{_≡_, refl, ap, _∙_}
 use mathlib.Core.List.{List, [], _∷_}

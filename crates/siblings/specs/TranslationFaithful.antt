@@ -1,4 +1,4 @@
--- The table that groups are laid out in is faithful to them. Assumes nothing.
+-- The table that groups are laid out in is faithful to them.
 use Prim.Native.Nat.{ℕ, suc, _+_, _≤_}
 use mathlib.Core.Path.{_≡_, refl, sym, subst, _∙_}
 use mathlib.Core.Bool.{true, false, or-false}
@@ -30,7 +30,7 @@ pub record Rest (nodes rules extra : List Node) (root number : ℕ) (groups : Li
   pub first-rules : (group : ℕ) → root ≤ group → (tail : List ℕ)
       → numberOf (sameNode (node group tail)) 1 rules ≡ numberOf (sameNode (node group tail)) number (ends root groups)
 
--- The first of these groups
+-- ## The first of these groups
 
 module _ (nodes rules extra : List Node) (root number : ℕ) (group : Group) (groups : List Group)
     (rest : Rest nodes rules extra root number (group ∷ groups)) where
@@ -81,7 +81,7 @@ module _ (nodes rules extra : List Node) (root number : ℕ) (group : Group) (gr
       apart : (one : ℕ) → suc root ≤ one → eqb one root ≡ false
       apart one h = ne-eqb one root (λ e. omega arith)
 
--- All of them
+-- ## All of them
 
 faithful-from : (first : ℕ) (others rules extra : List Node) (root number : ℕ) (groups : List Group)
     → Rest (node first [] ∷ others) rules extra root number groups
@@ -96,7 +96,7 @@ faithful-from first others rules extra root number (group ∷ groups) rest =
           (next-rest nodes rules extra root number group groups rest),
     )
 
--- The whole sheet
+-- ## The whole sheet
 
 pub roots-no-tail : (group letter : ℕ) (parent : List ℕ) (k : ℕ) (groups : List Group)
     → present (node group (letter ∷ parent)) (roots k groups) ≡ false

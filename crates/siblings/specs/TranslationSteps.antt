@@ -1,4 +1,4 @@
--- The translation of a whole sheet, rule by rule. Assumes nothing.
+-- The translation of a whole sheet, rule by rule.
 use Prim.Native.Nat.{ℕ, suc, _+_, _*_, _≤_, _<_}
 use mathlib.Core.Path.{_≡_, refl, sym, ap, subst, _∙_}
 use mathlib.Core.Bool.{true, false, false≢true}
@@ -11,7 +11,8 @@ use borrow.Author.Tests.{ne-eqb, eqb-true, eqb-false}
 use Rattle.paper.specs.Letters.{inward}
 use Rattle.paper.specs.Groups.{Group}
 use Rattle.paper.specs.Nodes.{nodeCount}
-use Rattle.siblings.specs.Layout.{Node, node, sameNode, present, roots, ends, way, added, grown, nodesOf, letterOf, isChild, isSibling, rows, tableOf}
+use Rattle.siblings.specs.Layout.{Node, node, sameNode, present, roots, ends, way, added, grown, nodesOf, letterOf, isChild}
+use Rattle.siblings.specs.Layout.{isSibling, rows, tableOf}
 use Rattle.paper.specs.Numbered.{numberOf}
 use Rattle.siblings.specs.Laying.{Laying, laying, enter, note}
 use Rattle.paper.specs.TestLaws.{by-test, or-left}
@@ -27,7 +28,7 @@ use Rattle.siblings.specs.LayingLaws.{Standing}
 use Rattle.siblings.specs.EnterLaws.{Entered, entered}
 use Rattle.siblings.specs.NoteLaws.{standing-noted, note-length}
 
--- The roots stand where they stood, whatever is added behind
+-- ## The roots stand where they stood, whatever is added behind
 
 pub number-more : (one : Node) (k : ℕ) (nodes extra : List Node) → present one nodes ≡ true
     → numberOf (sameNode one) k (nodes ++ extra) ≡ numberOf (sameNode one) k nodes
@@ -37,7 +38,8 @@ number-more one k (other ∷ nodes) extra e =
     by-test (sameNode one other) (λ p. rw p) (λ p. rw p (number-more one (suc k) nodes extra (rw p at e)))
 
 abbrev pub RootsAt : List Group → List Node → Type 0
-RootsAt all nodes = (group : ℕ) → group < length all → (present (node group []) nodes ≡ true) × (numberOf (sameNode (node group [])) 0 nodes ≡ group)
+RootsAt all nodes = (group : ℕ) → group < length all
+    → (present (node group []) nodes ≡ true) × (numberOf (sameNode (node group [])) 0 nodes ≡ group)
 
 roots-more : (all : List Group) (nodes extra : List Node) → RootsAt all nodes → RootsAt all (nodes ++ extra)
 roots-more all nodes extra there group h =
@@ -46,7 +48,7 @@ roots-more all nodes extra there group h =
       number-more (node group []) 0 nodes extra (here .0) ∙ here .1,
     )
 
--- What is known between two rules: the numbers so far, and the nodes where the rules that are left end
+-- ## What is known between two rules: the numbers so far, and the nodes where the rules that are left end
 
 pub record Midway (all : List Group) (table : List ℕ) (count rules-so-far : ℕ) (left : List Node) : Type 0 where
   pub others : List Node
@@ -72,7 +74,14 @@ module _ (all : List Group) (table : List ℕ) (count rules-so-far group : ℕ) 
   standing-start : Standing 0 (midway .others) (midway .rules) (node group []) start
   standing-start =
       let here = midway .roots-there group in-range in
-      record { laid = midway .laid; counted = midway .counted; fits = midway .fits; sound = midway .sound; there = here .0; reached = sym (here .1) }
+      record {
+        laid = midway .laid;
+        counted = midway .counted;
+        fits = midway .fits;
+        sound = midway .sound;
+        there = here .0;
+        reached = sym (here .1);
+      }
 
   grown-left : grown (added nodes (way group ending)) left ≡ nodesOf all
   unfolding grown
@@ -93,7 +102,8 @@ module _ (all : List Group) (table : List ℕ) (count rules-so-far group : ℕ) 
       ∙ note-length 0 (after-entering .more) (midway .rules) (node group ending) (enter (inward ending) start) (after-entering .standing)
       ∙ after-entering .same-length
 
-  pub next-rule : (table-then : List ℕ) (count-then rules-then : ℕ) → table-then ≡ note (suc rules-so-far) (enter (inward ending) start) .table
+  pub next-rule : (table-then : List ℕ) (count-then rules-then : ℕ)
+      → table-then ≡ note (suc rules-so-far) (enter (inward ending) start) .table
       → count-then ≡ enter (inward ending) start .count → rules-then ≡ suc rules-so-far
       → Midway all table-then count-then rules-then left × (length table-then ≡ length table)
   unfolding note
@@ -118,7 +128,7 @@ module _ (all : List Group) (table : List ℕ) (count rules-so-far group : ℕ) 
         ap length t ∙ noted-length,
       )
 
--- The start: the roots, of which all numbers are 0
+-- ## The start: the roots, of which all numbers are 0
 
 roots-numbers : (list : List Node) (k number : ℕ) (groups : List Group) → ((group : ℕ) → numberOf (isChild (node group [])) 0 list ≡ 0)
     → rows list [] k (roots number groups) ≡ replicate (4 * length groups) 0
@@ -196,7 +206,7 @@ midway-start group groups table count c zeros fits =
       rules-left = refl;
     }
 
--- The end: all rules are laid
+-- ## The end: all rules are laid
 
 pub midway-end : (all : List Group) (table : List ℕ) (count rules-so-far : ℕ) (left : List Node) → left ≡ []
     → Midway all table count rules-so-far left

@@ -1,4 +1,4 @@
--- Document 01, "Numbers returned": what a translation answers, and what it leaves in the lent table. Assumes nothing.
+-- Document 01, "Numbers returned": what a translation answers, and what it leaves in the lent table.
 use Prim.Native.Nat.{ℕ, _*_}
 use mathlib.Core.Bool.{cond}
 use mathlib.Core.List.{List, [], _++_}

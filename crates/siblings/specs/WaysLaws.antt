@@ -1,4 +1,4 @@
--- A group's nodes and rules among those of the whole sheet: the other groups have none of them. Assumes nothing.
+-- A group's nodes and rules among those of the whole sheet: the other groups have none of them.
 use Prim.Native.Nat.{ℕ, suc, _+_, _<_}
 use mathlib.Core.Path.{_≡_, refl, sym, _∙_}
 use mathlib.Core.Bool.{false, _&&_, _||_, or-assoc, and-or-distrib-left, and-false}
@@ -17,9 +17,10 @@ use Rattle.paper.specs.GroupsLaws.{same-sym}
 use Rattle.paper.specs.MemberLaws.{member-append}
 use Rattle.siblings.specs.GrownLaws.{inWays, present-way}
 
--- Rules of another group
+-- ## Rules of another group
 
-pub other-group : (group number : ℕ) (tail other : List ℕ) → eqb group number ≡ false → sameNode (node group tail) (node number other) ≡ false
+pub other-group : (group number : ℕ) (tail other : List ℕ) → eqb group number ≡ false
+    → sameNode (node group tail) (node number other) ≡ false
 unfolding sameNode
 other-group group number tail other e = rw e
 
@@ -40,7 +41,7 @@ number-beyond group tail k number (one ∷ groups) h =
     number-past group number tail (ne-eqb group number (λ e. omega arith)) k (one .rules) (ends (suc number) groups)
     ∙ number-beyond group tail (k + length (one .rules)) (suc number) groups (omega arith)
 
--- Rules of the group itself
+-- ## Rules of the group itself
 
 pub number-own : (group : ℕ) (tail : List ℕ) (k : ℕ) (rules : List Rule) (more : List Node)
     → ((j : ℕ) → numberOf (sameNode (node group tail)) j more ≡ 0)
@@ -50,7 +51,7 @@ number-own group tail k [] more e = e k
 number-own group tail k (rule ∷ rules) more e =
     rw (eq-eqb group group refl, same-sym tail (rule .ending), number-own group tail (suc k) rules more e)
 
--- Nodes on the ways of the rules
+-- ## Nodes on the ways of the rules
 
 pub ways-append : (one : Node) (left right : List Node) → inWays one (left ++ right) ≡ (inWays one left || inWays one right)
 unfolding inWays

@@ -22,7 +22,8 @@ fn clear(table: &mut [u16])
 
 // Lays out the sheet of these groups: their roots, and then what the rules add.
 pub(crate) fn lay(sheet: &[u8], table: &mut [u16], groups: usize)
-    requires { ⌜ Accepted (now sheet) × ((0 < groups) × ((groups ≡ length (groupsOf (now sheet))) × (length (now table) ≡ 4 * nodeCount (groupsOf (now sheet))))) ⌝ }
+    requires { ⌜ Accepted (now sheet) × ((0 < groups) × ((groups ≡ length (groupsOf (now sheet)))
+        × (length (now table) ≡ 4 * nodeCount (groupsOf (now sheet))))) ⌝ }
     ensures { λ r. ⌜ now (table .exit) ≡ tableOf (groupsOf (now (sheet .entry))) ⌝ }
 {
     clear(table);

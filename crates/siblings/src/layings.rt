@@ -86,7 +86,8 @@ pub(crate) fn insert(
     ending: &[u8],
 ) -> usize
     requires { ⌜ (4 * count ≤ length (now table)) × ((length (now table) < 65536) × ((root < 65536) × (rule < 65536))) ⌝ }
-    ensures { λ r. ⌜ now (table .exit) ≡ note rule (enter (inward (now (ending .entry))) (laying (now (table .entry)) count root)) .table ⌝ }
+    ensures { λ r. ⌜ now (table .exit) ≡ note rule
+        (enter (inward (now (ending .entry))) (laying (now (table .entry)) count root)) .table ⌝ }
     ensures { λ r. ⌜ r ≡ enter (inward (now (ending .entry))) (laying (now (table .entry)) count root) .count ⌝ }
 {
     let mut nodes = count;

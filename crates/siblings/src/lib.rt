@@ -20,7 +20,8 @@ pub enum Translated {
 
 // Translates a sheet to a table.
 pub fn translate(sheet: &[u8], table: &mut [u16]) -> Translated
-    ensures { λ r. ⌜ (r ≡ translation (now (sheet .entry)) (now (table .entry)) .answer) × (now (table .exit) ≡ translation (now (sheet .entry)) (now (table .entry)) .table) ⌝ }
+    ensures { λ r. ⌜ (r ≡ translation (now (sheet .entry)) (now (table .entry)) .answer)
+        × (now (table .exit) ≡ translation (now (sheet .entry)) (now (table .entry)) .table) ⌝ }
 {
     let found = sheets::check(sheet);
     match found {

@@ -1,4 +1,4 @@
--- How many bytes came on standard input. Assumes nothing.
+-- How many bytes came on standard input.
 use Prim.Native.Nat.{ℕ}
 use Rattle.stem.specs.declared.Input.{Input}
 use Rattle.stem.specs.declared.Input.the-variants.{Bytes, Failed}

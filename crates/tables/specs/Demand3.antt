@@ -1,6 +1,6 @@
 -- Demand 3: "For every rule sheet that 01 accepts, and every word of 1 to 64 small letters, walking the table made from that
 -- sheet gives the same word, or the same refusal, as reading the sheet itself group by group. The table made from the
--- shipped sheet gives the stem of demand 2." It holds of all groups and all words. Assumes nothing.
+-- shipped sheet gives the stem of demand 2." It holds of all groups and all words.
 use Prim.Native.Nat.{ℕ}
 use mathlib.Core.Path.{_≡_, fun-ext, ap}
 use mathlib.Core.List.{List}

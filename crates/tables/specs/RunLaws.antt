@@ -26,7 +26,7 @@ use Rattle.tables.specs.RunOutcomes.{rightTable, runOf, runOutcome}
 use Rattle.paper.specs.GroupsLaws.{same-long}
 use Rattle.siblings.specs.declared.Translated.the-variants.{Nodes, Refused, Short}
 
--- What the translation's answer says of the sheet
+-- ## What the translation's answer says of the sheet
 
 refused-by : (found : Sheet) (own : List ℕ) (place : ℕ) → Refused place ≡ translationOf found own .answer → found ≡ refused place
 unfolding translationOf

@@ -127,7 +127,7 @@ module _ {nodes : Nodes} {root found : ℕ} {word sheet : List ℕ} {groups star
               ap (λ (n : ℕ). picked nodes root found word n (found-rule .rules-then)) (add-one (rules + 1)) ∙ sym passed ∙ state .decides;
         }
 
--- One rule, test by test
+-- ## One rule, test by test
 
 module _ (nodes : Nodes) (root found : ℕ) (word : List ℕ) (number condition : ℕ) (s1 : List ℕ) where
   pub obeys-early : number < found → obeys nodes root found word number condition s1 ≡ false
@@ -145,7 +145,7 @@ module _ (nodes : Nodes) (root found : ℕ) (word : List ℕ) (number condition 
   unfolding obeys before
   obeys-judged there answer part h e f p j = rw (le-leb found number h, ← e, eq-eqb found there f, ← p) j
 
--- What was handed back says whether a rule was picked, and which
+-- ## What was handed back says whether a rule was picked, and which
 
 module _ (sheet : List ℕ) (found : Option Rule) (action opens start middle next : ℕ) where
   pub record Some : Type 0 where

@@ -20,7 +20,7 @@ use Rattle.pieces.specs.PiecesLaws.{joined, joined-pieces, pieces-other, starts
 use Rattle.pieces.specs.LongestRuns.{IsWord, LongestRuns, pieces-longest, pieces-word}
 use Rattle.texts.specs.Texts.{Ran, stays, answered, ofWord, ofPiece, nothing, _then_, ofPieces, runText}
 
--- Parts of a text one after the other.
+-- ## Parts of a text one after the other
 
 pub then-assoc : (one two three : Ran) → (one then two) then three ≡ one then (two then three)
 then-assoc one two three =

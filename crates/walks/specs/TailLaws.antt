@@ -1,4 +1,4 @@
--- Where the tails of endings lead. Assumes nothing.
+-- Where the tails of endings lead.
 use Prim.Native.Nat.{ℕ, suc}
 use mathlib.Core.Path.{_≡_, refl, sym}
 use mathlib.Core.Bool.{true, false, false≢true}

@@ -1,4 +1,4 @@
--- The index by group and last letter holds, for every word, all the rules of the group that can end it. Assumes nothing.
+-- The index by group and last letter holds, for every word, all the rules of the group that can end it.
 use Prim.Native.Nat.{ℕ, zero, suc, _+_, _-_, _*_, _≤_, _<_}
 use native.Mathlib.Nat.{not-suc-le-zero, le-of-suc-le-suc}
 use native.Mathlib.Omega.{arith}
@@ -17,7 +17,8 @@ use Rattle.paper.specs.ReadingLaws.{every, every-in, narrowed, same-fitting}
 use Rattle.paper.specs.LongerFirst.{keepsOrder, longerFirst, longerFirst-which}
 use Rattle.paper.specs.Shipped.{shipped}
 use Rattle.words.proofs.Joined.{map-at, starts-length, between}
-use Rattle.words.specs.Tables.{rulesOf, rules, noRule, ruleAt, may, numbers, columns, byGroup, candidates, candidateNumbers, candidateStarts, noGroup, groupRules, AllBelow, Column}
+use Rattle.words.specs.Tables.{rulesOf, rules, noRule, ruleAt, may, numbers, columns, byGroup, candidates, candidateNumbers}
+use Rattle.words.specs.Tables.{candidateStarts, noGroup, groupRules, AllBelow, Column}
 
 pub below-at : (n : ℕ) (ks : List ℕ) (i : ℕ) → AllBelow n ks → i < length ks → getD ks i 0 < n
 below-at n [] i b h = absurd (not-suc-le-zero h)
@@ -57,7 +58,7 @@ numbers-name test earlier (one ∷ group) later e =
     go later-numbers rest named true = cc
     go later-numbers rest named false = rest
 
--- ══ The blocks of the index ══
+-- ## The blocks of the index
 
 column-count : length columns ≡ 15
 unfolding columns
@@ -112,14 +113,15 @@ byGroup-at earlier (group ∷ groups) (suc g) c e h k =
     let size = row-length (length earlier) (group .rules) in
     let place : 15 * suc g + c ≡ length blocks + (15 * g + c) = omega arith in
     let more : length (earlier ++ group .rules) ≡ length earlier + length (group .rules) = length-append earlier (group .rules) in
-    let rest = byGroup-at (earlier ++ group .rules) groups g c (append-assoc earlier (group .rules) (rulesOf groups) ∙ e) (le-of-suc-le-suc h) k in
+    let rest = byGroup-at (earlier ++ group .rules) groups g c (append-assoc earlier (group .rules) (rulesOf groups) ∙ e)
+    (le-of-suc-le-suc h) k in
     rw (place, getD-append-add blocks (byGroup (length earlier + length (group .rules)) groups) (15 * g + c) [], ← more) rest
 
 pub block-at : (g c : ℕ) → g < 9 → c < 15 → Block (getD candidates (15 * g + c) []) (getD columns c 0) (groupRules g)
 unfolding candidates rules groupRules shipped
 block-at g c h k = byGroup-at [] shipped g c refl h k
 
--- ══ A word's last letter tells which rules may end it ══
+-- ## A word's last letter tells which rules may end it
 
 last-letter : (part s1 : List ℕ) → 0 < length s1 → letterAt 0 (part ++ s1) ≡ letterAt 0 s1
 unfolding letterAt inward
@@ -153,7 +155,8 @@ shipped-ordered : each longerFirst shipped ≡ true
 unfolding each longerFirst keepsOrder every endsWith same shipped
 shipped-ordered = refl
 
-ends-may : (word : List ℕ) (c : ℕ) (one : Rule) → Column word c → tidy one ≡ true → endsWith word (one .ending) ≡ true → may (getD columns c 0) one ≡ true
+ends-may : (word : List ℕ) (c : ℕ) (one : Rule) → Column word c → tidy one ≡ true → endsWith word (one .ending) ≡ true
+    → may (getD columns c 0) one ≡ true
 unfolding may tidy
 ends-may word c one column t e = go (one .ending) t (ends-split word (one .ending) e)
   where
@@ -189,7 +192,7 @@ unfolding groupRules longerFirst
 block-ordered g c block b =
     rw (b .names) (longerFirst-which (may (getD columns c 0)) (groupRules g) (each-at longerFirst g shipped refl shipped-ordered))
 
--- ══ The index as the functions are lent it ══
+-- ## The index as the functions are lent it
 
 block-count : length candidates ≡ 135
 unfolding candidates byGroup columns shipped

@@ -1,4 +1,4 @@
--- Each column of the tables, at the number of a rule, is what the rule says. Assumes nothing.
+-- Each column of the tables, at the number of a rule, is what the rule says.
 use Prim.Native.Nat.{ℕ, _+_, _-_, _≤_, _<_}
 use native.Mathlib.Omega.{arith}
 use mathlib.Core.Path.{_≡_, refl, ap, sym, _∙_}
@@ -10,26 +10,9 @@ use Rattle.paper.specs.Letters.{letters}
 use Rattle.paper.specs.Groups.{Action, replace, single-letter, written, numberOfAction, Rule}
 use Rattle.paper.specs.Groups.{Gate, always, if-opened, numberOfGate, Group, runs}
 use Rattle.paper.specs.Shipped.{shipped}
-use Rattle.words.specs.Tables.{
-  joined,
-  starts,
-  rulesOf,
-  rules,
-  noGroup,
-  noRule,
-  ruleAt,
-  gateDigits,
-  endings,
-  endingLetters,
-  endingStarts,
-  conditionDigits,
-  digit,
-  replacements,
-  replacementLetters,
-  replacementStarts,
-  singles,
-  openings,
-}
+use Rattle.words.specs.Tables.{joined, starts, rulesOf, rules, noGroup, noRule, ruleAt, gateDigits, endings, endingLetters}
+use Rattle.words.specs.Tables.{endingStarts, conditionDigits, digit, replacements, replacementLetters, replacementStarts, singles}
+use Rattle.words.specs.Tables.{openings}
 use Rattle.words.proofs.Joined.{map-at, starts-length, between}
 
 pub rule-count : length rules ≡ 62

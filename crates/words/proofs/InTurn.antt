@@ -1,5 +1,4 @@
--- Candidates looked at in turn: the first of those from a place on that passes a test, as a loop over them goes. Assumes
--- nothing.
+-- Candidates looked at in turn: the first of those from a place on that passes a test, as a loop over them goes.
 use Prim.Native.Nat.{ℕ, _+_, _<_}
 use native.Mathlib.Numerals.{add-one}
 use mathlib.Core.Path.{_≡_, sym, ap, _∙_}

@@ -1,5 +1,4 @@
 -- Lists kept one after the other, with where each starts: what stands between two starts is the list. Over any lists.
--- Assumes nothing.
 use Prim.Native.Nat.{ℕ, zero, suc, _+_, _-_, _≤_, _<_}
 use native.Mathlib.Nat.{not-suc-le-zero, le-of-suc-le-suc}
 use native.Mathlib.Numerals.{add-one}
@@ -67,7 +66,8 @@ pub record Between (lists : List (List ℕ)) (k : ℕ) : Type 0 where
 pub between : (lists : List (List ℕ)) (k : ℕ) → k < length lists → Between lists k
 between lists k h =
     let here : getD (starts 0 lists) k 0 ≡ length (joined (take k lists)) = starts-at 0 k lists (omega arith) ∙ omega arith in
-    let next : getD (starts 0 lists) (k + 1) 0 ≡ length (joined (take (k + 1) lists)) = starts-at 0 (k + 1) lists (omega arith) ∙ omega arith in
+    let next : getD (starts 0 lists) (k + 1) 0 ≡ length (joined (take (k + 1) lists)) = starts-at 0 (k + 1) lists (omega arith)
+    ∙ omega arith in
     let more : length (joined (take (k + 1) lists)) ≡ length (joined (take k lists)) + length
     (getD lists k []) = rw add-one (joined-take k lists h) in
     let whole = joined-split k lists h in

@@ -1,5 +1,4 @@
--- The shipped rules column by column, computed from the list in `paper`: what the constant tables of `words` hold. Assumes
--- nothing.
+-- The shipped rules column by column, computed from the list in `paper`: what the constant tables of `words` hold.
 use Prim.Native.Nat.{ℕ, suc, _+_, _<_, _≤_}
 use mathlib.Core.Path.{_≡_}
 use mathlib.Core.Bool.{Bool, true, false, cond, _||_}

@@ -1,4 +1,4 @@
--- `letters::above` meets its contract: letters that follow never take away from the measure. Assumes nothing.
+-- `letters::above` meets its contract: letters that follow never take away from the measure.
 use Prim.Native.Nat.{_+_, _-_, _≤_}
 use borrow.Author.Needs.{needs}
 use borrow.Author.Tests.{lt-ltb, le-ltb}
@@ -38,8 +38,10 @@ returns : tie.Need-returns Inv-loop μ-loop
 returns c =
     let at = c .before .before .before .before .before .loop in
     let ran = c .before .before .step in
-    let passing = step-gives (c .before .before .before .before .before .before .before .before .before .args .part .now) _ (at .s) (ran .result) (at .i) (c .before .before .before .before .loop-test .taken) (at .inv .0) (ran .ensures .0) (ran .ensures .1) in
-    let more = measure-passed (c .before .before .before .before .before .before .before .before .before .args .part .now) _ (ran .result) (at .i + 1) passing in
+    let part = c .before .before .before .before .before .before .before .before .before .args .part .now in
+    let passing = step-gives part _ (at .s) (ran .result) (at .i) (c .before .before .before .before .loop-test .taken) (at .inv .0)
+    (ran .ensures .0) (ran .ensures .1) in
+    let more = measure-passed part _ (ran .result) (at .i + 1) passing in
     sym (lt-ltb (c .before .before .before .before .before .before .before .before .before .args .k) (measureOf
     (c .before .before .before .before .before .before .before .before .before .args .part .now)) (omega
     (arith, c .if1 .taken, more)))
@@ -54,7 +56,9 @@ loop-again : tie.Need-loop-again Inv-loop μ-loop
 loop-again c =
     let at = c .before .before .before .before .before .loop in
     let ran = c .before .before .step in
-    let passing = step-gives (c .before .before .before .before .before .before .before .before .before .args .part .now) _ (at .s) (ran .result) (at .i) (c .before .before .before .before .loop-test .taken) (at .inv .0) (ran .ensures .0) (ran .ensures .1) in
+    let part = c .before .before .before .before .before .before .before .before .before .args .part .now in
+    let passing = step-gives part _ (at .s) (ran .result) (at .i) (c .before .before .before .before .loop-test .taken) (at .inv .0)
+    (ran .ensures .0) (ran .ensures .1) in
     (passing, c .if1 .left)
 
 returns-2 : tie.Need-returns-2 Inv-loop μ-loop
@@ -67,15 +71,5 @@ returns-2 c =
 pub above-spec : {M : Type 1} → statement M
 above-spec =
     tie.close
-    (tie.spec
-    Inv-loop
-    μ-loop
-    nothing-passed-requires
-    loop-holds
-    shared-slice-read-step
-    step-requires
-    returns
-    add-i
-    loop-less
-    loop-again
+    (tie.spec Inv-loop μ-loop nothing-passed-requires loop-holds shared-slice-read-step step-requires returns add-i loop-less loop-again
     returns-2)

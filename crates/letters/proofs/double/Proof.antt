@@ -1,4 +1,4 @@
--- `letters::double` meets its contract: the scan's class numbers are the classes. Assumes nothing.
+-- `letters::double` meets its contract: the scan's class numbers are the classes.
 use borrow.Author.Needs.{needs}
 use Rattle.paper.specs.Conditions.{*d}
 use Rattle.letters.proofs.Steps.{consonant-number}

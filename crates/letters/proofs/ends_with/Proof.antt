@@ -1,4 +1,4 @@
--- `letters::ends_with` meets its contract: at the loop's head the letters passed are those of the ending. Assumes nothing.
+-- `letters::ends_with` meets its contract: at the loop's head the letters passed are those of the ending.
 use Prim.Native.Nat.{ℕ, _+_, _-_, _≤_, _<_}
 use native.Mathlib.Omega.{arith}
 use mathlib.Core.Path.{_≡_, sym}
@@ -53,17 +53,5 @@ returns-3 c =
 pub ends-with-spec : {M : Type 1} → statement M
 ends-with-spec =
     tie.close
-    (tie.spec
-    Inv-loop
-    μ-loop
-    returns
-    sub-start
-    loop-holds
-    add-if2
-    shared-slice-read-if2
-    shared-slice-read-if2-2
-    returns-2
-    add-i
-    loop-less
-    loop-again
-    returns-3)
+    (tie.spec Inv-loop μ-loop returns sub-start loop-holds add-if2 shared-slice-read-if2 shared-slice-read-if2-2 returns-2 add-i loop-less
+    loop-again returns-3)

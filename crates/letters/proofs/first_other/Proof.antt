@@ -1,4 +1,4 @@
--- `letters::first_other` meets its contract: what is left to find lies in the bytes not passed yet. Assumes nothing.
+-- `letters::first_other` meets its contract: what is left to find lies in the bytes not passed yet.
 use Prim.Native.Nat.{_+_, _-_, _≤_}
 use native.Mathlib.Numerals.{add-one}
 use native.Mathlib.Omega.{arith}
@@ -71,15 +71,5 @@ returns-3 c =
 pub first-other-spec : {M : Type 1} → statement M
 first-other-spec =
     tie.close
-    (tie.spec
-    Inv-loop
-    μ-loop
-    loop-holds
-    shared-slice-read-if1
-    returns
-    shared-slice-read-if2
-    returns-2
-    add-i
-    loop-less
-    loop-again
+    (tie.spec Inv-loop μ-loop loop-holds shared-slice-read-if1 returns shared-slice-read-if2 returns-2 add-i loop-less loop-again
     returns-3)

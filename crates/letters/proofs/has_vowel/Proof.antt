@@ -1,4 +1,4 @@
--- `letters::has_vowel` meets its contract: letters that follow take no vowel away. Assumes nothing.
+-- `letters::has_vowel` meets its contract: letters that follow take no vowel away.
 use Prim.Native.Nat.{_+_, _-_}
 use borrow.Author.Needs.{needs}
 use native.Mathlib.Omega.{arith}
@@ -69,15 +69,5 @@ returns-2 c =
 pub has-vowel-spec : {M : Type 1} → statement M
 has-vowel-spec =
     tie.close
-    (tie.spec
-    Inv-loop
-    μ-loop
-    nothing-passed-requires
-    loop-holds
-    shared-slice-read-step
-    step-requires
-    returns
-    add-i
-    loop-less
-    loop-again
+    (tie.spec Inv-loop μ-loop nothing-passed-requires loop-holds shared-slice-read-step step-requires returns add-i loop-less loop-again
     returns-2)

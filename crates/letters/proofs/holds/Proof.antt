@@ -1,4 +1,4 @@
--- `letters::holds` meets its contract; without a last letter l condition 8 does not hold. Assumes nothing.
+-- `letters::holds` meets its contract; without a last letter l condition 8 does not hold.
 use borrow.Author.Needs.{needs}
 use borrow.Author.Tests.{ne-eqb}
 use mathlib.Core.Bool.{and-false}
@@ -52,16 +52,5 @@ returns-6 c = search needs
 pub holds-spec : {M : Type 1} → statement M
 holds-spec =
     tie.close
-    (tie.spec
-    above-requires
-    above-requires-2
-    has-vowel-requires
-    letter-at-requires
-    returns
-    scan-requires
-    judged-requires
-    returns-2
-    returns-3
-    returns-4
-    returns-5
-    returns-6)
+    (tie.spec above-requires above-requires-2 has-vowel-requires letter-at-requires returns scan-requires judged-requires returns-2
+    returns-3 returns-4 returns-5 returns-6)

@@ -1,4 +1,4 @@
--- `letters::judged` meets its contract: each arm is the condition of its number. Assumes nothing.
+-- `letters::judged` meets its contract: each arm is the condition of its number.
 use Prim.Native.Nat.{_≤_}
 use borrow.Author.Needs.{needs}
 use mathlib.Core.Path.{sym}
@@ -56,15 +56,5 @@ returns-6 c =
 pub judged-spec : {M : Type 1} → statement M
 judged-spec =
     tie.close
-    (tie.spec
-    letter-at-requires
-    double-requires
-    short-requires
-    short-requires-2
-    double-requires-2
-    returns
-    returns-2
-    returns-3
-    returns-4
-    returns-5
-    returns-6)
+    (tie.spec letter-at-requires double-requires short-requires short-requires-2 double-requires-2 returns returns-2 returns-3 returns-4
+    returns-5 returns-6)

@@ -1,4 +1,4 @@
--- `letters::letter_at` meets its contract. Assumes nothing.
+-- `letters::letter_at` meets its contract.
 use Prim.Native.Nat.{_≤_}
 use borrow.Author.Needs.{needs}
 use mathlib.Core.Path.{sym}

@@ -1,4 +1,4 @@
--- `letters::nothing_passed` meets its contract: of no letters there is nothing. Assumes nothing.
+-- `letters::nothing_passed` meets its contract: of no letters there is nothing.
 use mathlib.Core.Path.{refl}
 use Rattle.paper.specs.Letters.{inward, classOf, classAt, rises, measure}
 use Rattle.paper.specs.Conditions.{someVowel, *v*}

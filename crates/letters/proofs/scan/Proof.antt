@@ -1,4 +1,4 @@
--- `letters::scan` meets its contract: at the loop's head the numbers are those of the letters passed. Assumes nothing.
+-- `letters::scan` meets its contract: at the loop's head the numbers are those of the letters passed.
 use Prim.Native.Nat.{_-_}
 use borrow.Author.Needs.{needs}
 use native.Mathlib.Omega.{arith}
@@ -55,14 +55,4 @@ returns c =
 pub scan-spec : {M : Type 1} → statement M
 scan-spec =
     tie.close
-    (tie.spec
-    Inv-loop
-    μ-loop
-    nothing-passed-requires
-    loop-holds
-    shared-slice-read-step
-    step-requires
-    add-i
-    loop-less
-    loop-again
-    returns)
+    (tie.spec Inv-loop μ-loop nothing-passed-requires loop-holds shared-slice-read-step step-requires add-i loop-less loop-again returns)

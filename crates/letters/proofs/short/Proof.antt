@@ -1,4 +1,4 @@
--- `letters::short` meets its contract: the scan's class numbers are the classes. Assumes nothing.
+-- `letters::short` meets its contract: the scan's class numbers are the classes.
 use borrow.Author.Needs.{needs}
 use mathlib.Core.Bool.{or-false}
 use Rattle.paper.specs.Letters.{letters, among}

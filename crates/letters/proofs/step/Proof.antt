@@ -1,4 +1,4 @@
--- `letters::step` meets its contract: each way out is one of the two laws of a step. Assumes nothing.
+-- `letters::step` meets its contract: each way out is one of the two laws of a step.
 use borrow.Author.Needs.{needs}
 use native.Mathlib.Omega.{arith}
 use mathlib.Core.Path.{sym, _∙_}

@@ -1,5 +1,4 @@
--- `letters::vowel_after` meets its contract: outside a to z there is no vowel, and within it the table says. Assumes
--- nothing.
+-- `letters::vowel_after` meets its contract: outside a to z there is no vowel, and within it the table says.
 use borrow.Author.Needs.{needs}
 use native.Mathlib.Omega.{arith}
 use mathlib.Core.Path.{sym, ap, _∙_}

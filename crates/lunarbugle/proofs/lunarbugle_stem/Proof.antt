@@ -44,12 +44,4 @@ returns c =
 pub lunarbugle-stem-spec : {M : Type 1} → statement M
 lunarbugle-stem-spec =
     tie.close
-    (tie.spec
-    stem-requires
-    number-requires
-    cast-number
-    value-requires
-    mul-result
-    add-result
-    same-length
-    returns)
+    (tie.spec stem-requires number-requires cast-number value-requires mul-result add-result same-length returns)

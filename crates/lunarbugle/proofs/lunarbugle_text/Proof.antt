@@ -79,15 +79,5 @@ returns c = (
 pub lunarbugle-text-spec : {M : Type 1} → statement M
 lunarbugle-text-spec =
     tie.close
-    (tie.spec
-    run-requires
-    number-requires
-    cast-number
-    stemmed-requires
-    left-requires
-    mul-result
-    add-result
-    mul-result-2
-    add-result-2
-    same-length
-    returns)
+    (tie.spec run-requires number-requires cast-number stemmed-requires left-requires mul-result add-result mul-result-2 add-result-2
+    same-length returns)

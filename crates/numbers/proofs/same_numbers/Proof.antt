@@ -1,4 +1,4 @@
--- `numbers::same_numbers` meets its contract. The loop's invariant: what is left decides. Assumes nothing.
+-- `numbers::same_numbers` meets its contract. The loop's invariant: what is left decides.
 use Prim.Native.Nat.{_≤_, _-_}
 use mathlib.Core.Path.{_≡_, refl, sym, _∙_}
 use native.Mathlib.Omega.{arith}
@@ -63,17 +63,5 @@ returns-3 c =
 pub same-numbers-spec : {M : Type 1} → statement M
 same-numbers-spec =
     tie.close
-    (tie.spec
-    Inv-loop
-    μ-loop
-    returns
-    loop-holds
-    mul-if2
-    shared-slice-read-if2
-    mul-if2-2
-    shared-slice-read-if2-2
-    returns-2
-    add-i
-    loop-less
-    loop-again
-    returns-3)
+    (tie.spec Inv-loop μ-loop returns loop-holds mul-if2 shared-slice-read-if2 mul-if2-2 shared-slice-read-if2-2 returns-2 add-i loop-less
+    loop-again returns-3)

@@ -42,10 +42,4 @@ returns c =
 pub next-word-spec : {M : Type 1} → statement M
 next-word-spec =
     tie.close
-    (tie.spec
-    next-word-at-requires
-    word-end-requires
-    sub-result
-    part-result-start
-    part-result-end
-    returns)
+    (tie.spec next-word-at-requires word-end-requires sub-result part-result-start part-result-end returns)

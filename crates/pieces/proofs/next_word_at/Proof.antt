@@ -58,15 +58,5 @@ returns-3 c =
 pub next-word-at-spec : {M : Type 1} → statement M
 next-word-at-spec =
     tie.close
-    (tie.spec
-    Inv-loop
-    μ-loop
-    returns
-    loop-holds
-    shared-slice-read-is-letter
-    is-letter-requires
-    returns-2
-    add-at
-    loop-less
-    loop-again
+    (tie.spec Inv-loop μ-loop returns loop-holds shared-slice-read-is-letter is-letter-requires returns-2 add-at loop-less loop-again
     returns-3)

@@ -53,14 +53,4 @@ returns-2 c =
 pub word-end-spec : {M : Type 1} → statement M
 word-end-spec =
     tie.close
-    (tie.spec
-    Inv-loop
-    μ-loop
-    loop-holds
-    shared-slice-read-is-letter
-    is-letter-requires
-    add-end
-    loop-less
-    loop-again
-    returns
-    returns-2)
+    (tie.spec Inv-loop μ-loop loop-holds shared-slice-read-is-letter is-letter-requires add-end loop-less loop-again returns returns-2)

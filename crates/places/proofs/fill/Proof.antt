@@ -1,4 +1,4 @@
--- `places::fill` meets its contract: at the loop's head spaces stand in the places passed. Assumes nothing.
+-- `places::fill` meets its contract: at the loop's head spaces stand in the places passed.
 use Prim.Native.Nat.{ℕ, suc, _+_, _-_, _≤_, _<_}
 use native.Mathlib.Omega.{arith}
 use mathlib.Core.Path.{_≡_, refl, sym, ap, ap₂, _∙_}
@@ -27,7 +27,8 @@ spaced-more place stem i low high =
     let here : stem + (i - stem) ≡ i = omega arith in
     let next : i + 1 - stem ≡ suc (i - stem) = omega arith in
     let space : getD (spaces (length place - stem)) (i - stem) 0 ≡ 32 = getD-replicate (length place - stem) (i - stem) _ 0 (omega arith) in
-    let more = paste-suc place stem (spaces (length place - stem)) (i - stem) 0 (omega arith) (omega (arith, spaces-length (length place - stem))) in
+    let more = paste-suc place stem (spaces (length place - stem)) (i - stem) 0 (omega arith)
+    (omega (arith, spaces-length (length place - stem))) in
     ap₂ (λ (k v : ℕ). set (spaced place stem (i - stem)) k v) (sym here) (sym space)
     ∙ more
     ∙ ap (spaced place stem) (sym next)
@@ -76,7 +77,8 @@ loop-again c =
       omega arith,
       omega arith,
       simp length-set (at .inv .2),
-      ap (λ (w : List ℕ). set w (at .i) 32) (at .inv .3) ∙ spaced-more (s .args .place .now) (s .args .stem) (at .i) (at .inv .0) (omega arith),
+      ap (λ (w : List ℕ). set w (at .i) 32) (at .inv .3)
+          ∙ spaced-more (s .args .place .now) (s .args .stem) (at .i) (at .inv .0) (omega arith),
     )
 
 same-length : tie.Need-same-length Inv-loop μ-loop
@@ -92,14 +94,4 @@ returns-2 c =
 pub fill-spec : {M : Type 1} → statement M
 fill-spec =
     tie.close
-    (tie.spec
-    Inv-loop
-    μ-loop
-    returns
-    loop-holds
-    slice-write-place
-    add-i
-    loop-less
-    loop-again
-    same-length
-    returns-2)
+    (tie.spec Inv-loop μ-loop returns loop-holds slice-write-place add-i loop-less loop-again same-length returns-2)

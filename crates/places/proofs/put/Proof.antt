@@ -1,4 +1,4 @@
--- `places::put` meets its contract: at the loop's head the letters passed are in their places. Assumes nothing.
+-- `places::put` meets its contract: at the loop's head the letters passed are in their places.
 use Prim.Native.Nat.{_+_, _-_, _≤_}
 use native.Mathlib.Numerals.{add-one}
 use native.Mathlib.Omega.{arith}
@@ -92,21 +92,5 @@ returns-3 c =
 pub put-spec : {M : Type 1} → statement M
 put-spec =
     tie.close
-    (tie.spec
-    Inv-loop
-    μ-loop
-    returns
-    sub-if2
-    returns-2
-    loop-holds
-    add-if3
-    slice-read-if3
-    shared-slice-read-if3
-    shared-slice-read-place
-    add-place
-    slice-write-place
-    add-i
-    loop-less
-    loop-again
-    same-length
-    returns-3)
+    (tie.spec Inv-loop μ-loop returns sub-if2 returns-2 loop-holds add-if3 slice-read-if3 shared-slice-read-if3 shared-slice-read-place
+    add-place slice-write-place add-i loop-less loop-again same-length returns-3)

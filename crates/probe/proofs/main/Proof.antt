@@ -1,5 +1,5 @@
 -- `probe::main` is safe and ends. The measure is the number of requests that are left to its count.
--- Nothing has to hold from request to request, so the invariant says nothing. Assumes nothing.
+-- Nothing has to hold from request to request, so the invariant says nothing.
 use native.Mathlib.Omega.{arith}
 use Rattle.probe.proofs.main.Statement.{statement}
 use Rattle.probe.proofs.main.Tie as tie
@@ -34,13 +34,4 @@ returns-2 c = tt
 pub main-spec : {M : Type 1} → statement M
 main-spec =
     tie.close
-    (tie.spec
-    Inv-loop
-    μ-loop
-    loop-holds
-    went-on-requires
-    sub-left
-    loop-less
-    loop-again
-    returns
-    returns-2)
+    (tie.spec Inv-loop μ-loop loop-holds went-on-requires sub-left loop-less loop-again returns returns-2)

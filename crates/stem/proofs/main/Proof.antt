@@ -1,4 +1,4 @@
--- `stem::main` meets its contract: what came is within the buffer. Assumes nothing.
+-- `stem::main` meets its contract: what came is within the buffer.
 use Prim.Native.Nat.{_≤_}
 use mathlib.Core.Path.{sym, ap}
 use borrow.Author.Needs.{needs}
@@ -59,18 +59,6 @@ returns-3 c = search needs
 pub main-spec : {M : Type 1} → statement M
 main-spec =
     tie.close
-    (tie.spec
-    slice-aggregate-read-input
-    read-input-requires
-    enum-known-input
-    enum-told
-    slice-aggregate-write-all
-    write-all-requires
-    returns
-    array-borrow-prefix-buffer
-    slice-aggregate-write-answer
-    write-answer-requires
-    slice-aggregate-write-all-2
-    write-all-requires-2
-    returns-2
-    returns-3)
+    (tie.spec slice-aggregate-read-input read-input-requires enum-known-input enum-told slice-aggregate-write-all write-all-requires
+    returns array-borrow-prefix-buffer slice-aggregate-write-answer write-answer-requires slice-aggregate-write-all-2 write-all-requires-2
+    returns-2 returns-3)

@@ -1,5 +1,4 @@
 -- `stem::read_input` meets its contract. The loop's invariant: what came so far is within the buffer, whose length stays.
--- Assumes nothing.
 use Prim.Native.Nat.{ℕ, _+_, _-_, _≤_}
 use mathlib.Core.List.{List, _++_}
 use mathlib.Core.Path.{_≡_, ap, _∙_}
@@ -103,22 +102,5 @@ returns-3 c = omega arith
 pub read-input-spec : {M : Type 1} → statement M
 read-input-spec =
     tie.close
-    (tie.spec
-    Inv-loop
-    μ-loop
-    loop-holds
-    sub-read-once
-    part-read-once-start
-    part-read-once-end
-    read-once-requires
-    enum-known-piece
-    enum-told
-    same-length
-    returns
-    same-length-2
-    returns-2
-    add-at
-    loop-less
-    loop-again
-    same-length-3
-    returns-3)
+    (tie.spec Inv-loop μ-loop loop-holds sub-read-once part-read-once-start part-read-once-end read-once-requires enum-known-piece
+    enum-told same-length returns same-length-2 returns-2 add-at loop-less loop-again same-length-3 returns-3)

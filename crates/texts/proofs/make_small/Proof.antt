@@ -57,14 +57,4 @@ returns c = c .before .loop .inv .2 ∙ small-all _ _ (omega arith)
 pub make-small-spec : {M : Type 1} → statement M
 make-small-spec =
     tie.close
-    (tie.spec
-    Inv-loop
-    μ-loop
-    loop-holds
-    slice-read-word
-    slice-write-word
-    add-at
-    loop-less
-    loop-again
-    same-length
-    returns)
+    (tie.spec Inv-loop μ-loop loop-holds slice-read-word slice-write-word add-at loop-less loop-again same-length returns)

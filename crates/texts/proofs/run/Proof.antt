@@ -126,25 +126,6 @@ returns-2 c =
 pub run-spec : {M : Type 1} → statement M
 run-spec =
     tie.close
-    (tie.spec
-    Inv-loop
-    μ-loop
-    returns
-    loop-holds
-    next-word-at-requires
-    word-end-requires
-    sub-if2
-    add-left
-    sub-stem-word
-    part-stem-word-start
-    part-stem-word-end
-    stem-word-requires
-    add-stemmed
-    loop-less
-    loop-again
-    loop-less-2
-    loop-again-2
-    loop-less-3
-    loop-again-3
-    same-length
-    returns-2)
+    (tie.spec Inv-loop μ-loop returns loop-holds next-word-at-requires word-end-requires sub-if2 add-left sub-stem-word
+    part-stem-word-start part-stem-word-end stem-word-requires add-stemmed loop-less loop-again loop-less-2 loop-again-2 loop-less-3
+    loop-again-3 same-length returns-2)

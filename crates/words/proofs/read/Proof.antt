@@ -1,4 +1,4 @@
--- `words::read` meets its contract: at the loop's head what is left to read gives the stem. Assumes nothing.
+-- `words::read` meets its contract: at the loop's head what is left to read gives the stem.
 use Prim.Native.Nat.{ℕ, _-_, _≤_, _<_}
 use borrow.Author.Needs.{needs}
 use native.Mathlib.Omega.{arith}
@@ -106,15 +106,5 @@ returns c =
 pub read-spec : {M : Type 1} → statement M
 read-spec =
     tie.close
-    (tie.spec
-    Inv-loop
-    μ-loop
-    column-of-requires
-    loop-holds
-    shared-slice-read-if1
-    turn-requires
-    add-group
-    loop-less
-    loop-again
-    same-length
+    (tie.spec Inv-loop μ-loop column-of-requires loop-holds shared-slice-read-if1 turn-requires add-group loop-less loop-again same-length
     returns)

@@ -94,18 +94,5 @@ returns-2 c =
 pub turn-spec : {M : Type 1} → statement M
 turn-spec =
     tie.close
-    (tie.spec
-    slice-reshare-prefix-choose
-    slice-aggregate-choose
-    choose-requires
-    same-length
-    returns
-    size-requires
-    sub-part
-    obey-requires
-    slice-reshare-prefix-column-of
-    slice-aggregate-column-of
-    column-of-requires
-    opens-requires
-    same-length-2
-    returns-2)
+    (tie.spec slice-reshare-prefix-choose slice-aggregate-choose choose-requires same-length returns size-requires sub-part obey-requires
+    slice-reshare-prefix-column-of slice-aggregate-column-of column-of-requires opens-requires same-length-2 returns-2)

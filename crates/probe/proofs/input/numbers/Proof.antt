@@ -1,4 +1,4 @@
--- `probe::input::numbers` meets its contract: what it counts lies within the space. Assumes nothing.
+-- `probe::input::numbers` meets its contract: what it counts lies within the space.
 use Prim.Native.Nat.{_-_, _^_, _≤_, _<_}
 use borrow.Author.Needs.{needs}
 use native.Mathlib.Omega.{arith}
@@ -65,22 +65,5 @@ returns-2 c = (counts _ _ (c .before .loop .inv .0), omega arith)
 pub numbers-spec : {M : Type 1} → statement M
 numbers-spec =
     tie.close
-    (tie.spec
-    Inv-loop
-    μ-loop
-    loop-holds
-    mul-at
-    add-if1
-    same-length
-    returns
-    shared-slice-read-pair
-    add-pair
-    shared-slice-read-pair-2
-    pair-requires
-    mul-space
-    slice-write-space
-    add-i
-    loop-less
-    loop-again
-    same-length-2
-    returns-2)
+    (tie.spec Inv-loop μ-loop loop-holds mul-at add-if1 same-length returns shared-slice-read-pair add-pair shared-slice-read-pair-2
+    pair-requires mul-space slice-write-space add-i loop-less loop-again same-length-2 returns-2)

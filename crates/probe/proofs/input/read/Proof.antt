@@ -1,5 +1,5 @@
 -- `probe::input::read` meets its contract: what came lies within the part that was to be filled, and
--- so within the whole space. Assumes nothing.
+-- so within the whole space.
 use mathlib.Core.Path.{sym}
 use native.Mathlib.Omega.{arith}
 use borrow.Author.Needs.{needs}
@@ -40,13 +40,5 @@ returns-2 c = counts _ _ (simp length-append (omega (arith, c .before .before .r
 pub read-spec : {M : Type 1} → statement M
 read-spec =
     tie.close
-    (tie.spec
-    slice-aggregate-read-full
-    read-full-requires
-    number-requires
-    returns
-    slice-relend-prefix-read-full
-    slice-aggregate-read-full-2
-    read-full-requires-2
-    same-length
-    returns-2)
+    (tie.spec slice-aggregate-read-full read-full-requires number-requires returns slice-relend-prefix-read-full
+    slice-aggregate-read-full-2 read-full-requires-2 same-length returns-2)

@@ -1,4 +1,4 @@
--- `probe::output::spread` meets its contract: what it counts lies within the space. Assumes nothing.
+-- `probe::output::spread` meets its contract: what it counts lies within the space.
 use Prim.Native.Nat.{_-_, _*_, _^_, _≤_, _<_}
 use borrow.Author.Needs.{needs}
 use native.Mathlib.Omega.{arith}
@@ -9,7 +9,8 @@ use Rattle.probe.proofs.output.spread.Statement.{statement}
 use Rattle.probe.proofs.output.spread.Tie as tie
 
 abbrev Inv-loop : tie.InvT-loop
-Inv-loop numbers space₀ i₀ space i = (2 * i ≤ length space) × (length space ≡ length space₀) × (i ≤ length numbers) × (length numbers < 2 ^ 62)
+Inv-loop numbers space₀ i₀ space i = (2 * i ≤ length space) × (length space ≡ length space₀) × (i ≤ length numbers) ×
+    (length numbers < 2 ^ 62)
 
 abbrev μ-loop : tie.MeasureT-loop
 μ-loop numbers space₀ i₀ space i = length numbers - i
@@ -71,24 +72,5 @@ returns-2 c = counts _ _ (c .before .loop .inv .0)
 pub spread-spec : {M : Type 1} → statement M
 spread-spec =
     tie.close
-    (tie.spec
-    Inv-loop
-    μ-loop
-    loop-holds
-    mul-at
-    add-if1
-    same-length
-    returns
-    mul-n
-    shared-slice-read-n
-    cast-space
-    slice-write-space
-    cast-space-2
-    add-space
-    slice-write-space-2
-    add-i
-    loop-less
-    loop-again
-    mul-result
-    same-length-2
-    returns-2)
+    (tie.spec Inv-loop μ-loop loop-holds mul-at add-if1 same-length returns mul-n shared-slice-read-n cast-space slice-write-space
+    cast-space-2 add-space slice-write-space-2 add-i loop-less loop-again mul-result same-length-2 returns-2)

@@ -53,16 +53,5 @@ returns-5 c = search needs
 pub longer-spec : {M : Type 1} → statement M
 longer-spec =
     tie.close
-    (tie.spec
-    returns
-    returns-2
-    sub-if3
-    sub-if3-2
-    shared-slice-read-if3
-    sub-if3-3
-    sub-if3-4
-    shared-slice-read-if3-2
-    returns-3
-    shared-tail-requires
-    returns-4
-    returns-5)
+    (tie.spec returns returns-2 sub-if3 sub-if3-2 shared-slice-read-if3 sub-if3-3 sub-if3-4 shared-slice-read-if3-2 returns-3
+    shared-tail-requires returns-4 returns-5)

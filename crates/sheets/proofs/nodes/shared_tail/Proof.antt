@@ -91,19 +91,5 @@ returns-3 c = let over = c .loop-test .left in at-the-answer _ _ _ (c .before .l
 pub shared-tail-spec : {M : Type 1} → statement M
 shared-tail-spec =
     tie.close
-    (tie.spec
-    Inv-loop
-    μ-loop
-    loop-holds
-    returns
-    sub-if2
-    sub-if2-2
-    shared-slice-read-if2
-    sub-if2-3
-    sub-if2-4
-    shared-slice-read-if2-2
-    returns-2
-    add-k
-    loop-less
-    loop-again
-    returns-3)
+    (tie.spec Inv-loop μ-loop loop-holds returns sub-if2 sub-if2-2 shared-slice-read-if2 sub-if2-3 sub-if2-4 shared-slice-read-if2-2
+    returns-2 add-k loop-less loop-again returns-3)

@@ -1,5 +1,5 @@
 -- `siblings::layings::chain_end` meets its contract: the end of a chain. The loop's invariant: from here on the chain ends
--- where it does from its start. Assumes nothing.
+-- where it does from its start.
 use Prim.Native.Nat.{_<_}
 use mathlib.Core.Path.{_≡_, refl, sym, _∙_}
 use native.Mathlib.Omega.{arith}
@@ -60,17 +60,5 @@ returns-2 c = sym (end-over (c .before .loop .steps) _ _ (c .loop-test .left)) �
 pub chain-end-spec : {M : Type 1} → statement M
 chain-end-spec =
     tie.close
-    (tie.spec
-    Inv-loop
-    μ-loop
-    mul-link
-    add-link
-    loop-holds
-    number-at-requires
-    returns
-    mul-link-2
-    add-link-2
-    sub-steps
-    loop-less
-    loop-again
+    (tie.spec Inv-loop μ-loop mul-link add-link loop-holds number-at-requires returns mul-link-2 add-link-2 sub-steps loop-less loop-again
     returns-2)

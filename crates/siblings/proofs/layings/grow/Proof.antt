@@ -1,4 +1,4 @@
--- `siblings::layings::grow` meets its contract: one letter laid. Assumes nothing.
+-- `siblings::layings::grow` meets its contract: one letter laid.
 use Prim.Native.Nat.{_*_}
 use mathlib.Core.Path.{sym}
 use native.Mathlib.Omega.{arith}
@@ -40,8 +40,10 @@ same-length-2 c = search needs
 
 returns-2 : tie.Need-returns-2
 returns-2 c =
-    let found = c .before .before .child .ensures .0 in
-    (grow-full _ _ _ _ _ _ (c .before .before .before .before .wide .ensures) found (c .before .if1 .left) (c .if2 .taken), (omega arith, omega arith))
+    let found = c .before .before .child .ensures .0 in (
+      grow-full _ _ _ _ _ _ (c .before .before .before .before .wide .ensures) found (c .before .if1 .left) (c .if2 .taken),
+      (omega arith, omega arith),
+    )
 
 slice-reshare-prefix-chain-end : tie.Need-slice-reshare-prefix-chain-end
 slice-reshare-prefix-chain-end c = search needs
@@ -77,21 +79,6 @@ returns-3 c =
 pub grow-spec : {M : Type 1} → statement M
 grow-spec =
     tie.close
-    (tie.spec
-    mul-end
-    wide-requires
-    slice-reshare-prefix-child
-    slice-aggregate-child
-    child-requires
-    same-length
-    returns
-    sub-if2
-    same-length-2
-    returns-2
-    slice-reshare-prefix-chain-end
-    slice-aggregate-chain-end
-    chain-end-requires
-    hang-requires
-    add-t12
-    same-length-3
-    returns-3)
+    (tie.spec mul-end wide-requires slice-reshare-prefix-child slice-aggregate-child child-requires same-length returns sub-if2
+    same-length-2 returns-2 slice-reshare-prefix-chain-end slice-aggregate-chain-end chain-end-requires hang-requires add-t12
+    same-length-3 returns-3)

@@ -1,4 +1,4 @@
--- `siblings::layings::hang` meets its contract: five stores, one after another. Assumes nothing.
+-- `siblings::layings::hang` meets its contract: five stores, one after another.
 use Rattle.siblings.specs.StoreLaws.{hung-stores}
 use borrow.Author.Needs.{needs}
 use Rattle.siblings.proofs.layings.hang.Statement.{statement}
@@ -45,28 +45,16 @@ same-length c = search needs
 
 returns : tie.Need-returns
 returns c =
-    let fifth = c .before .before .put5 .ensures in
-    let fourth = c .before .before .before .before .before .before .put4 .ensures in
-    let third = c .before .before .before .before .before .before .before .before .before .before .put3 .ensures in
-    let second = c .before .before .before .before .before .before .before .before .before .before .before .before .before .before .put2 .ensures in
-    let first = c .before .before .before .before .before .before .before .before .before .before .before .before .before .before .before .before .before .before .put .ensures in
-    hung-stores _ _ _ _ _ _ _ _ _ first second third fourth fifth
+    let after-five = c .before .before in
+    let after-four = after-five .before .before .before .before in
+    let after-three = after-four .before .before .before .before in
+    let after-two = after-three .before .before .before .before in
+    let after-one = after-two .before .before .before .before in
+    hung-stores _ _ _ _ _ _ _ _ _ (after-one .put .ensures) (after-two .put2 .ensures) (after-three .put3 .ensures)
+    (after-four .put4 .ensures) (after-five .put5 .ensures)
 
 pub hang-spec : {M : Type 1} → statement M
 hang-spec =
     tie.close
-    (tie.spec
-    put-requires
-    mul-put
-    put-requires-2
-    mul-put-2
-    add-put
-    put-requires-3
-    mul-put-3
-    add-put-2
-    put-requires-4
-    mul-put-4
-    add-put-3
-    put-requires-5
-    same-length
-    returns)
+    (tie.spec put-requires mul-put put-requires-2 mul-put-2 add-put put-requires-3 mul-put-3 add-put-2 put-requires-4 mul-put-4 add-put-3
+    put-requires-5 same-length returns)

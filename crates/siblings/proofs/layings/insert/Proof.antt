@@ -1,5 +1,5 @@
 -- `siblings::layings::insert` meets its contract: one rule laid. The loop's invariant: what is still to be entered, entered
--- here, gives what the whole ending gives at the start. Assumes nothing.
+-- here, gives what the whole ending gives at the start.
 use Prim.Native.Nat.{_*_, _<_, _≤_}
 use mathlib.Core.Path.{_≡_, refl, sym, ap, _∙_}
 use native.Mathlib.Omega.{arith}
@@ -71,9 +71,13 @@ same-length c = c .before .before .put .kept .0 ∙ c .before .before .before .b
 returns : tie.Need-returns Inv-loop μ-loop
 returns c =
     let now = c .before .before .before .before .before .before .before .before .loop in
-    let whole = sym (enter-over _ (now .left) _ (c .before .before .before .before .before .before .before .loop-test .left)) ∙ now .inv .0 in
-    let read = c .before .before .before .before .before .number-at .ensures .0 in
-    (note-new _ _ _ _ _ whole read (c .before .before .before .before .if1 .taken) (c .before .before .put .ensures), ap (λ (laid : Laying). laid .count) whole)
+    let whole = sym (enter-over _ (now .left) _ (c .before .before .before .before .before .before .before .loop-test .left))
+    ∙ now .inv .0 in
+    let read = c .before .before .before .before .before .number-at .ensures .0 in (
+      note-new _ _ _ _ _ whole read (c .before .before .before .before .if1 .taken)
+          (c .before .before .put .ensures),
+      ap (λ (laid : Laying). laid .count) whole,
+    )
 
 same-length-2 : tie.Need-same-length-2 Inv-loop μ-loop
 same-length-2 c = c .before .before .before .before .loop .inv .1
@@ -88,20 +92,5 @@ returns-2 c =
 pub insert-spec : {M : Type 1} → statement M
 insert-spec =
     tie.close
-    (tie.spec
-    Inv-loop
-    μ-loop
-    loop-holds
-    sub-left
-    shared-slice-read-grow
-    grow-requires
-    loop-less
-    loop-again
-    mul-place
-    add-place
-    number-at-requires
-    put-requires
-    same-length
-    returns
-    same-length-2
-    returns-2)
+    (tie.spec Inv-loop μ-loop loop-holds sub-left shared-slice-read-grow grow-requires loop-less loop-again mul-place add-place
+    number-at-requires put-requires same-length returns same-length-2 returns-2)

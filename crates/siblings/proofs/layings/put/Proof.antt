@@ -1,4 +1,4 @@
--- `siblings::layings::put` meets its contract: a store, or nothing beyond the table's end. Assumes nothing.
+-- `siblings::layings::put` meets its contract: a store, or nothing beyond the table's end.
 use mathlib.Core.Path.{sym}
 use lib.Seq.{set-out}
 use borrow.Author.Needs.{needs}

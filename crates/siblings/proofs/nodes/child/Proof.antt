@@ -1,5 +1,5 @@
 -- `siblings::nodes::child` meets its contract: the child of a letter. The loop's invariant: what the chain holds from here on
--- is what it holds from its start. Assumes nothing.
+-- is what it holds from its start.
 use Prim.Native.Nat.{_<_}
 use mathlib.Core.Path.{_≡_, sym, _∙_}
 use lib.Dec.{lit<}
@@ -83,22 +83,5 @@ returns-4 c = (sym (chain-end _ _ _ _ (c .loop-test .left)) ∙ c .before .loop 
 pub child-spec : {M : Type 1} → statement M
 child-spec =
     tie.close
-    (tie.spec
-    Inv-loop
-    μ-loop
-    returns
-    mul-number-at
-    add-number-at
-    number-at-requires
-    loop-holds
-    returns-2
-    mul-number-at-2
-    number-at-requires-2
-    returns-3
-    mul-number-at-3
-    add-number-at-2
-    number-at-requires-3
-    sub-steps
-    loop-less
-    loop-again
-    returns-4)
+    (tie.spec Inv-loop μ-loop returns mul-number-at add-number-at number-at-requires loop-holds returns-2 mul-number-at-2
+    number-at-requires-2 returns-3 mul-number-at-3 add-number-at-2 number-at-requires-3 sub-steps loop-less loop-again returns-4)

@@ -1,4 +1,4 @@
--- `siblings::nodes::number_at` meets its contract: a number of the table, or 0 beyond its end. Assumes nothing.
+-- `siblings::nodes::number_at` meets its contract: a number of the table, or 0 beyond its end.
 use mathlib.Core.Path.{refl, sym}
 use native.Mathlib.Omega.{arith}
 use lib.Dec.{lit<}

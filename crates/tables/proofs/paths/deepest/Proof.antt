@@ -1,5 +1,5 @@
 -- `tables::paths::deepest` meets its contract: the deepest rule. The loop's invariant: the whole walk finds what the rest of
--- it finds, or else what was found so far. Assumes nothing.
+-- it finds, or else what was found so far.
 use Prim.Native.Nat.{_<_, _≤_}
 use mathlib.Core.Path.{_≡_, sym, _∙_}
 use native.Mathlib.Omega.{arith}
@@ -110,23 +110,5 @@ returns-2 c =
 pub deepest-spec : {M : Type 1} → statement M
 deepest-spec =
     tie.close
-    (tie.spec
-    Inv-loop
-    μ-loop
-    mul-number-at
-    add-number-at
-    number-at-requires
-    loop-holds
-    sub-left
-    shared-slice-read-wide
-    wide-requires
-    child-requires
-    returns
-    mul-number-at-2
-    add-number-at-2
-    number-at-requires-2
-    loop-less
-    loop-again
-    loop-less-2
-    loop-again-2
-    returns-2)
+    (tie.spec Inv-loop μ-loop mul-number-at add-number-at number-at-requires loop-holds sub-left shared-slice-read-wide wide-requires
+    child-requires returns mul-number-at-2 add-number-at-2 number-at-requires-2 loop-less loop-again loop-less-2 loop-again-2 returns-2)

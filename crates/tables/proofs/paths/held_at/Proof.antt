@@ -1,5 +1,5 @@
 -- `tables::paths::held_at` meets its contract: the rule at the end of a path. The loop's invariant: the letters passed lead
--- to this node. Assumes nothing.
+-- to this node.
 use Prim.Native.Nat.{_<_, _≤_, _-_}
 use mathlib.Core.Path.{_≡_, sym, _∙_}
 use mathlib.Core.Option.{some}
@@ -83,18 +83,5 @@ returns-2 c =
 pub held-at-spec : {M : Type 1} → statement M
 held-at-spec =
     tie.close
-    (tie.spec
-    Inv-loop
-    μ-loop
-    loop-holds
-    sub-left
-    shared-slice-read-wide
-    wide-requires
-    child-requires
-    returns
-    loop-less
-    loop-again
-    mul-number-at
-    add-number-at
-    number-at-requires
-    returns-2)
+    (tie.spec Inv-loop μ-loop loop-holds sub-left shared-slice-read-wide wide-requires child-requires returns loop-less loop-again
+    mul-number-at add-number-at number-at-requires returns-2)

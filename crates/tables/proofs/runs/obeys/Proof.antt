@@ -19,7 +19,8 @@ held-at-requires c κs = search needs
 returns-2 : tie.Need-returns-2
 returns-2 c =
     let a = c .before .before .before .before .before .before .args in
-    sym (obeys-other (nodesIn (a .table .now)) (a .root) (a .found) (a .word .now) (a .number) (a .condition) _ _ (c .before .held-at .ensures)
+    sym (obeys-other (nodesIn (a .table .now)) (a .root) (a .found) (a .word .now) (a .number) (a .condition) _ _
+    (c .before .held-at .ensures)
     (c .if2 .taken))
 
 less-requires : tie.Need-less-requires

@@ -1,5 +1,5 @@
 -- `words::choosing::among` meets its contract: a rule that does not end the word is passed by, and the first that ends it has the
--- longest ending. Assumes nothing.
+-- longest ending.
 use Prim.Native.Nat.{ℕ, zero, suc, _+_, _-_, _≤_, _<_}
 use borrow.Author.Needs.{needs}
 use native.Mathlib.Omega.{arith}
@@ -17,7 +17,7 @@ use Rattle.words.proofs.InTurn.{from-place, here-and-next, ends-of, siz
 use Rattle.words.proofs.choosing.among.Statement.{statement}
 use Rattle.words.proofs.choosing.among.Tie as tie
 
--- ══ The candidates from a place on, as they are lent ══
+-- ## The candidates from a place on, as they are lent
 
 below-rest : (n : ℕ) (ks : List ℕ) (i : ℕ) → AllBelow n ks → AllBelow n (drop i ks)
 below-rest n ks zero b = b
@@ -68,7 +68,8 @@ wide-requires c κs = search needs
 ends-requires : tie.Need-ends-requires Inv-loop μ-loop
 ends-requires c κs =
     let s = c .before .before .before .before .before .before .before .before .before in
-    let known = below-at 62 (s .args .candidates .now) (c .before .before .before .loop .i) (s .pre .0 .0) (c .before .before .loop-test .taken) in
+    let known = below-at 62 (s .args .candidates .now) (c .before .before .before .loop .i) (s .pre .0 .0)
+    (c .before .before .loop-test .taken) in
     (omega (arith, c .wide .ensures, known), (s .pre .1 .0, s .pre .1 .1 .0))
 
 size-requires : tie.Need-size-requires Inv-loop μ-loop
@@ -89,7 +90,9 @@ part-obeyed-end c = omega arith
 
 -- the rule that was found ends the word
 ends-there : (c : tie.After-size Inv-loop μ-loop)
-    → EndsAt (c .before .before .before .before .before .before .before .before .before .before .before .before .args .word .now) (c .size .result) (c .before .before .before .before .before .before .before .before .before .before .before .before .args .candidates .now) (c .before .before .before .before .before .before .loop .i)
+    → (let turn = c .before .before .before .before .before .before in
+    let a = turn .before .before .before .before .before .before .args in
+    EndsAt (a .word .now) (c .size .result) (a .candidates .now) (turn .loop .i))
 ends-there c =
     let s = c .before .before .before .before .before .before .before .before .before .before .before .before in
     let same = c .before .before .before .wide .ensures in
@@ -102,7 +105,8 @@ obeyed-requires : tie.Need-obeyed-requires Inv-loop μ-loop
 obeyed-requires c κs =
     let s = c .before .before .before .before .before .before .before .before .before .before .before .before .before in
     let at = c .before .before .before .before .before .before .before .loop in
-    let rest = rest-starts (s .args .word .now) (s .args .candidates .now) (at .i) (c .before .size .result) (c .before .before .before .before .before .before .loop-test .taken) (s .pre .0 .0)
+    let rest = rest-starts (s .args .word .now) (s .args .candidates .now) (at .i) (c .before .size .result)
+    (c .before .before .before .before .before .before .loop-test .taken) (s .pre .0 .0)
     (ends-there (c .before)) in
     (rw (rest-of (s .args .candidates .now) (at .i)) rest, s .pre .1)
 
@@ -111,7 +115,8 @@ returns c =
     let s = c .before .before .before .before .before .before .before .before .before .before .before .before .before .before in
     let at = c .before .before .before .before .before .before .before .before .loop in
     let candidates = s .args .candidates .now in
-    let found = first-obeyed (s .args .word .now) candidates (at .i) (c .before .before .size .result) (c .before .before .before .before .before .before .before .loop-test .taken) (at .inv .2)
+    let found = first-obeyed (s .args .word .now) candidates (at .i) (c .before .before .size .result)
+    (c .before .before .before .before .before .before .before .loop-test .taken) (at .inv .2)
     (ends-there (c .before .before)) in
     ((rw (rest-of candidates (at .i)) at (c .obeyed .ensures .0)) ∙ found ∙ at .inv .1, c .obeyed .ensures .1)
 
@@ -141,7 +146,8 @@ unfolding picked obeyed chosen fitting which first
 returns-2 c =
     let s = c .before .before .before .before .before .before .before in
     let at = c .before .loop in (
-      ap (λ (l : List ℕ). obeyed (s .args .word .now) (map ruleAt l)) (sym (drop-of-length-le (s .args .candidates .now) (c .loop-test .left)))
+      ap (λ (l : List ℕ). obeyed (s .args .word .now) (map ruleAt l))
+          (sym (drop-of-length-le (s .args .candidates .now) (c .loop-test .left)))
           ∙ at .inv .1,
       omega arith,
     )
@@ -149,20 +155,5 @@ returns-2 c =
 pub among-spec : {M : Type 1} → statement M
 among-spec =
     tie.close
-    (tie.spec
-    Inv-loop
-    μ-loop
-    loop-holds
-    shared-slice-read-wide
-    wide-requires
-    ends-requires
-    size-requires
-    sub-obeyed
-    part-obeyed-start
-    part-obeyed-end
-    obeyed-requires
-    returns
-    add-i
-    loop-less
-    loop-again
-    returns-2)
+    (tie.spec Inv-loop μ-loop loop-holds shared-slice-read-wide wide-requires ends-requires size-requires sub-obeyed part-obeyed-start
+    part-obeyed-end obeyed-requires returns add-i loop-less loop-again returns-2)

@@ -1,5 +1,5 @@
 -- `words::choosing::choose` meets its contract: the block of the word's last letter holds every rule of the group that can end the
--- word. Assumes nothing.
+-- word.
 use Prim.Native.Nat.{ℕ, _+_, _-_, _*_}
 use borrow.Author.Needs.{needs}
 use native.Mathlib.Omega.{arith}
@@ -22,7 +22,8 @@ part-is numbers-of places k from-is to-is = rw (from-is, to-is)
 -- the part of the index for the group and the column
 index-of : (s : tie.Start) → Indexed (s .args .candidates .now) (s .args .blocks .now) (s .args .group) (s .args .column)
 index-of s =
-    indexed (s .args .candidates .now) (s .args .blocks .now) (s .args .group) (s .args .column) (s .pre .0 .1 .0) (s .pre .0 .1 .1) (s .pre .0 .0) (s .pre .1 .1 .0)
+    indexed (s .args .candidates .now) (s .args .blocks .now) (s .args .group) (s .args .column) (s .pre .0 .1 .0) (s .pre .0 .1 .1)
+    (s .pre .0 .0) (s .pre .1 .1 .0)
 
 mul-at : tie.Need-mul-at
 mul-at c = search needs
@@ -49,11 +50,21 @@ wide-requires-2 c κs = search needs
 
 sub-among : tie.Need-sub-among
 sub-among c =
-    omega (arith, index-of (c .before .before .before .before .before .before .before .before .before .before) .rising, c .wide2 .ensures, c .before .before .wide .ensures)
+    omega (
+      arith,
+      index-of (c .before .before .before .before .before .before .before .before .before .before) .rising,
+      c .wide2 .ensures,
+      c .before .before .wide .ensures,
+    )
 
 part-among-start : tie.Need-part-among-start
 part-among-start c =
-    omega (arith, index-of (c .before .before .before .before .before .before .before .before .before .before) .rising, c .wide2 .ensures, c .before .before .wide .ensures)
+    omega (
+      arith,
+      index-of (c .before .before .before .before .before .before .before .before .before .before) .rising,
+      c .wide2 .ensures,
+      c .before .before .wide .ensures,
+    )
 
 part-among-end : tie.Need-part-among-end
 part-among-end c =
@@ -64,8 +75,10 @@ among-requires c κs =
     let s = c .before .before .before .before .before .before .before .before .before .before .before in
     let index = index-of s in
     let taken = part-is (s .args .candidates .now) (s .args .blocks .now) (15 * s .args .group + s .args .column)
-    (c .before .before .before .wide .ensures) (c .before .wide2 .ensures) in
-    ((rw taken (rw rule-count at (index .block .known)), rw taken (block-ordered (s .args .group) (s .args .column) _ (index .block))), s .pre .1 .0)
+    (c .before .before .before .wide .ensures) (c .before .wide2 .ensures) in (
+      (rw taken (rw rule-count at (index .block .known)), rw taken (block-ordered (s .args .group) (s .args .column) _ (index .block))),
+      s .pre .1 .0,
+    )
 
 returns : tie.Need-returns
 returns c =
@@ -73,23 +86,13 @@ returns c =
     let index = index-of s in
     let taken = part-is (s .args .candidates .now) (s .args .blocks .now) (15 * s .args .group + s .args .column)
     (c .before .before .before .before .wide .ensures) (c .before .before .wide2 .ensures) in (
-      (rw taken at (c .among .ensures .0)) ∙ by-block (s .args .word .now) (s .args .group) (s .args .column) _ (s .pre .1 .1) (index .block),
+      (rw taken at (c .among .ensures .0))
+          ∙ by-block (s .args .word .now) (s .args .group) (s .args .column) _ (s .pre .1 .1) (index .block),
       c .among .ensures .1,
     )
 
 pub choose-spec : {M : Type 1} → statement M
 choose-spec =
     tie.close
-    (tie.spec
-    mul-at
-    add-at
-    shared-slice-read-wide
-    wide-requires
-    add-wide
-    shared-slice-read-wide-2
-    wide-requires-2
-    sub-among
-    part-among-start
-    part-among-end
-    among-requires
-    returns)
+    (tie.spec mul-at add-at shared-slice-read-wide wide-requires add-wide shared-slice-read-wide-2 wide-requires-2 sub-among
+    part-among-start part-among-end among-requires returns)

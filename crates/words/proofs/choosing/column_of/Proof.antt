@@ -1,4 +1,4 @@
--- `words::choosing::column_of` meets its contract: by the arm of the last letter, or by none of them. Assumes nothing.
+-- `words::choosing::column_of` meets its contract: by the arm of the last letter, or by none of them.
 use Prim.Native.Nat.{ℕ, _-_, _<_}
 use borrow.Author.Needs.{needs}
 use borrow.Author.Tests.{eqb-true, ne-eqb}
@@ -118,22 +118,5 @@ returns-16 c = let s = c .before .before .before in other-column _ _ (last-is (s
 pub column-of-spec : {M : Type 1} → statement M
 column-of-spec =
     tie.close
-    (tie.spec
-    returns
-    sub-last
-    shared-slice-read-last
-    returns-2
-    returns-3
-    returns-4
-    returns-5
-    returns-6
-    returns-7
-    returns-8
-    returns-9
-    returns-10
-    returns-11
-    returns-12
-    returns-13
-    returns-14
-    returns-15
-    returns-16)
+    (tie.spec returns sub-last shared-slice-read-last returns-2 returns-3 returns-4 returns-5 returns-6 returns-7 returns-8 returns-9
+    returns-10 returns-11 returns-12 returns-13 returns-14 returns-15 returns-16)

@@ -1,4 +1,4 @@
--- `words::choosing::ends` meets its contract. Assumes nothing.
+-- `words::choosing::ends` meets its contract.
 use borrow.Author.Needs.{needs}
 use native.Mathlib.Omega.{arith}
 use mathlib.Core.Path.{ap, _∙_}
@@ -56,14 +56,5 @@ returns c =
 pub ends-spec : {M : Type 1} → statement M
 ends-spec =
     tie.close
-    (tie.spec
-    shared-slice-read-wide
-    wide-requires
-    add-wide
-    shared-slice-read-wide-2
-    wide-requires-2
-    sub-ends-with
-    part-ends-with-start
-    part-ends-with-end
-    ends-with-requires
-    returns)
+    (tie.spec shared-slice-read-wide wide-requires add-wide shared-slice-read-wide-2 wide-requires-2 sub-ends-with part-ends-with-start
+    part-ends-with-end ends-with-requires returns)

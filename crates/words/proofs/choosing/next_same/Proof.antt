@@ -1,5 +1,5 @@
 -- `words::choosing::next_same` meets its contract: no rule passed may be obeyed, since its ending has another size or does not end the
--- word. Assumes nothing.
+-- word.
 use Prim.Native.Nat.{_-_, _≤_}
 use borrow.Author.Needs.{needs}
 use native.Mathlib.Omega.{arith}
@@ -36,7 +36,8 @@ wide-requires c κs = search needs
 size-requires : tie.Need-size-requires Inv-loop μ-loop
 size-requires c κs =
     let s = c .before .before .before .before .before .before .before .before in
-    let known = below-at 62 (s .args .candidates .now) (c .before .before .before .loop .i) (s .pre .0 .0) (c .before .before .loop-test .taken) in
+    let known = below-at 62 (s .args .candidates .now) (c .before .before .before .loop .i) (s .pre .0 .0)
+    (c .before .before .loop-test .taken) in
     (omega (arith, c .wide .ensures, known), s .pre .0 .1 .1)
 
 ends-requires : tie.Need-ends-requires Inv-loop μ-loop
@@ -53,7 +54,8 @@ returns c =
     let candidates = s .args .candidates .now in
     let same = c .before .before .before .before .wide .ensures in
     let ends = ends-of (s .args .word .now) candidates (at .i) _ same (c .before .ends .ensures) (c .if2 .taken) in
-    let size = size-of (s .args .word .now) candidates (at .i) _ same (c .before .before .before .size .ensures) ∙ c .before .before .if1 .taken in
+    let size = size-of (s .args .word .now) candidates (at .i) _ same (c .before .before .before .size .ensures)
+    ∙ c .before .before .if1 .taken in
     record { behind = at .inv .0; within = at .inv .1; rest = at .inv .2; ends-there = λ h. (ends, size) }
 
 add-i : tie.Need-add-i Inv-loop μ-loop
@@ -74,8 +76,12 @@ loop-again c =
     let passed-over : obeys word (s .args .n) rule ≡ false =
     ⊎-elim (λ w. obeys-ends word (s .args .n) rule (ends-of word candidates (at .i) _ same (w .1 .ensures) (w .2 .left)))
     (λ w. obeys-size word (s .args .n) rule (λ e. w .left (sym size ∙ e)))
-    (c .if1 .came) in
-    (omega arith, omega arith, sym (first-next (obeys word (s .args .n)) candidates (at .i) (c .before .before .before .before .loop-test .taken) passed-over) ∙ at .inv .2)
+    (c .if1 .came) in (
+      omega arith,
+      omega arith,
+      sym (first-next (obeys word (s .args .n)) candidates (at .i)
+          (c .before .before .before .before .loop-test .taken) passed-over) ∙ at .inv .2,
+    )
 
 returns-2 : tie.Need-returns-2 Inv-loop μ-loop
 returns-2 c =
@@ -85,16 +91,5 @@ returns-2 c =
 pub next-same-spec : {M : Type 1} → statement M
 next-same-spec =
     tie.close
-    (tie.spec
-    Inv-loop
-    μ-loop
-    loop-holds
-    shared-slice-read-wide
-    wide-requires
-    size-requires
-    ends-requires
-    returns
-    add-i
-    loop-less
-    loop-again
-    returns-2)
+    (tie.spec Inv-loop μ-loop loop-holds shared-slice-read-wide wide-requires size-requires ends-requires returns add-i loop-less
+    loop-again returns-2)

@@ -1,5 +1,5 @@
 -- `words::choosing::obeyed` meets its contract: only the rules whose ending has so many letters and ends the word are looked at, and the
--- first of them whose condition holds is the first that is obeyed. Assumes nothing.
+-- first of them whose condition holds is the first that is obeyed.
 use Prim.Native.Nat.{ℕ, _-_, _≤_, _<_}
 use borrow.Author.Needs.{needs}
 use borrow.Author.Tests.{lt-ltb}
@@ -69,14 +69,20 @@ wide-requires c κs = search needs
 shared-slice-read-holds : tie.Need-shared-slice-read-holds Inv-loop μ-loop
 shared-slice-read-holds c =
     let s = c .before .before .before .before .before .before .before .before .before .before in
-    let known = below-at 62 (s .args .candidates .now) (c .before .before .before .before .loop .i) (s .pre .0 .0) (c .before .before .before .loop-test .taken) in
+    let known = below-at 62 (s .args .candidates .now) (c .before .before .before .before .loop .i) (s .pre .0 .0)
+    (c .before .before .before .loop-test .taken) in
     omega (arith, known, c .before .wide .ensures, ap length (s .pre .1 .1 .1), condition-count)
 
 sub-holds : tie.Need-sub-holds Inv-loop μ-loop
 sub-holds c =
     let s = c .before .before .before .before .before .before .before .before .before .before in
-    let known = below-at 62 (s .args .candidates .now) (c .before .before .before .before .loop .i) (s .pre .0 .0) (c .before .before .before .loop-test .taken) in
-    omega (arith, condition-of (s .args .conditions .now) (c .before .wide .result) (s .pre .1 .1 .1) (omega (arith, known, c .before .wide .ensures)))
+    let known = below-at 62 (s .args .candidates .now) (c .before .before .before .before .loop .i) (s .pre .0 .0)
+    (c .before .before .before .loop-test .taken) in
+    omega (
+      arith,
+      condition-of (s .args .conditions .now) (c .before .wide .result) (s .pre .1 .1 .1)
+          (omega (arith, known, c .before .wide .ensures)),
+    )
 
 slice-aggregate-holds : tie.Need-slice-aggregate-holds Inv-loop μ-loop
 slice-aggregate-holds c = sym (length-take-le _ _ (omega arith))
@@ -120,8 +126,10 @@ loop-again c =
     let inside = c .before .before .before .before .before .before .before .loop-test .taken in
     let rule = getD candidates (at .i) 0 in
     let known = below-at 62 candidates (at .i) (s .pre .0 .0) inside in
-    let failed = decided (s .args .word .now) candidates (s .args .conditions .now) (s .args .n) (at .i) _ (c .before .before .holds .result)
-    (s .pre .1 .1 .1) known (at .inv .3 inside) (c .before .before .before .before .before .wide .ensures) (c .before .before .holds .ensures) ∙ c .before .if1 .left in
+    let failed = decided (s .args .word .now) candidates (s .args .conditions .now) (s .args .n) (at .i) _
+    (c .before .before .holds .result)
+    (s .pre .1 .1 .1) known (at .inv .3 inside) (c .before .before .before .before .before .wide .ensures)
+    (c .before .before .holds .ensures) ∙ c .before .if1 .left in
     let next = first-next (obeys (s .args .word .now) (s .args .n)) candidates (at .i) inside failed in (
       c .next-same .ensures .within,
       refl,
@@ -134,7 +142,8 @@ unfolding picked first
 returns-2 c =
     let s = c .before .before .before .before .before .before .before in
     let at = c .before .loop in (
-      ap (λ (l : List ℕ). first (obeys (s .args .word .now) (s .args .n)) (map ruleAt l)) (sym (drop-of-length-le (s .args .candidates .now) (c .loop-test .left)))
+      ap (λ (l : List ℕ). first (obeys (s .args .word .now) (s .args .n)) (map ruleAt l))
+          (sym (drop-of-length-le (s .args .candidates .now) (c .loop-test .left)))
           ∙ at .inv .2,
       omega arith,
     )
@@ -142,20 +151,5 @@ returns-2 c =
 pub obeyed-spec : {M : Type 1} → statement M
 obeyed-spec =
     tie.close
-    (tie.spec
-    Inv-loop
-    μ-loop
-    sub-part
-    loop-holds
-    shared-slice-read-wide
-    wide-requires
-    shared-slice-read-holds
-    sub-holds
-    slice-aggregate-holds
-    holds-requires
-    returns
-    add-next-same
-    next-same-requires
-    loop-less
-    loop-again
-    returns-2)
+    (tie.spec Inv-loop μ-loop sub-part loop-holds shared-slice-read-wide wide-requires shared-slice-read-holds sub-holds
+    slice-aggregate-holds holds-requires returns add-next-same next-same-requires loop-less loop-again returns-2)

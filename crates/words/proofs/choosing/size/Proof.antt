@@ -1,4 +1,4 @@
--- `words::choosing::size` meets its contract. Assumes nothing.
+-- `words::choosing::size` meets its contract.
 use borrow.Author.Needs.{needs}
 use native.Mathlib.Omega.{arith}
 use Rattle.words.proofs.Columns.{ending-row}
@@ -33,11 +33,4 @@ returns c =
 pub size-spec : {M : Type 1} → statement M
 size-spec =
     tie.close
-    (tie.spec
-    add-wide
-    shared-slice-read-wide
-    wide-requires
-    shared-slice-read-wide-2
-    wide-requires-2
-    sub-result
-    returns)
+    (tie.spec add-wide shared-slice-read-wide wide-requires shared-slice-read-wide-2 wide-requires-2 sub-result returns)

@@ -1,4 +1,4 @@
--- `words::obeying::obey` meets its contract. Assumes nothing.
+-- `words::obeying::obey` meets its contract.
 use Prim.Native.Nat.{ℕ, _-_, _≤_}
 use borrow.Author.Needs.{needs}
 use borrow.Author.Tests.{eqb-true}
@@ -93,14 +93,5 @@ returns-4 c =
 pub obey-spec : {M : Type 1} → statement M
 obey-spec =
     tie.close
-    (tie.spec
-    single-requires
-    returns
-    sub-result
-    returns-2
-    removes-requires
-    returns-3
-    slice-aggregate-replace
-    replace-requires
-    same-length
+    (tie.spec single-requires returns sub-result returns-2 removes-requires returns-3 slice-aggregate-replace replace-requires same-length
     returns-4)

@@ -1,4 +1,4 @@
--- `words::obeying::opens` meets its contract: its table is the column of the list. Assumes nothing.
+-- `words::obeying::opens` meets its contract: its table is the column of the list.
 use borrow.Author.Needs.{needs}
 use Rattle.words.specs.Tables.{openings}
 use Rattle.words.proofs.Columns.{opens-at}

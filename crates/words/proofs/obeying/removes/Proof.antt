@@ -1,4 +1,4 @@
--- `words::obeying::removes` meets its contract: a replacement is empty exactly where it ends where it starts. Assumes nothing.
+-- `words::obeying::removes` meets its contract: a replacement is empty exactly where it ends where it starts.
 use Prim.Native.Nat.{ℕ, _+_}
 use borrow.Author.Needs.{needs}
 use native.Mathlib.Omega.{arith}
@@ -20,10 +20,12 @@ add-result : tie.Need-add-result
 add-result c = search needs
 
 shared-slice-read-result : tie.Need-shared-slice-read-result
-shared-slice-read-result c = let s = c .before in omega (arith, replacement-row (s .args .rule) replacementLetters (s .args .starts .now) (s .pre .0) refl (s .pre .1) .known)
+shared-slice-read-result c = let s = c .before in omega
+    (arith, replacement-row (s .args .rule) replacementLetters (s .args .starts .now) (s .pre .0) refl (s .pre .1) .known)
 
 shared-slice-read-result-2 : tie.Need-shared-slice-read-result-2
-shared-slice-read-result-2 c = let s = c .before .before in omega (arith, replacement-row (s .args .rule) replacementLetters (s .args .starts .now) (s .pre .0) refl (s .pre .1) .known)
+shared-slice-read-result-2 c = let s = c .before .before in omega
+    (arith, replacement-row (s .args .rule) replacementLetters (s .args .starts .now) (s .pre .0) refl (s .pre .1) .known)
 
 returns : tie.Need-returns
 returns c =

@@ -1,4 +1,4 @@
--- `words::obeying::replace` meets its contract: the part, then the letters that were put behind it. Assumes nothing.
+-- `words::obeying::replace` meets its contract: the part, then the letters that were put behind it.
 use Prim.Native.Nat.{ℕ, _+_, _-_, _≤_}
 use borrow.Author.Needs.{needs}
 use native.Mathlib.Omega.{arith}
@@ -117,17 +117,5 @@ returns c =
 pub replace-spec : {M : Type 1} → statement M
 replace-spec =
     tie.close
-    (tie.spec
-    shared-slice-read-wide
-    wide-requires
-    add-wide
-    shared-slice-read-wide-2
-    wide-requires-2
-    sub-put
-    part-put-start
-    part-put-end
-    put-requires
-    sub-result
-    add-result
-    same-length
-    returns)
+    (tie.spec shared-slice-read-wide wide-requires add-wide shared-slice-read-wide-2 wide-requires-2 sub-put part-put-start part-put-end
+    put-requires sub-result add-result same-length returns)

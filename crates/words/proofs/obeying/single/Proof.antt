@@ -1,4 +1,4 @@
--- `words::obeying::single` meets its contract: its table is the column of the list. Assumes nothing.
+-- `words::obeying::single` meets its contract: its table is the column of the list.
 use borrow.Author.Needs.{needs}
 use Rattle.words.specs.Tables.{singles}
 use Rattle.words.proofs.Columns.{single-at}
