@@ -8,7 +8,7 @@ use lib.Dec.{ltb}
 use lib.ListN.{length, take, drop, length-append, length-take, length-drop, take-append-drop}
 use lib.Seq.{drop-drop, take-append-seam, drop-append-seam}
 use borrow.Author.Tests.{ltb-false, le-ltb}
-use Rattle.paper.specs.TestLaws.{by-test, neither-left, neither-right, apart}
+use Rattle.paper.specs.TestLaws.{by-test, neither-left, neither-right}
 use Rattle.records.specs.Framing.{number, bodyLength, kind, body, recordLength, after, cut, bodyPlace, nextPlace, frameAt}
 use Rattle.records.specs.Framing.{two, recordOf}
 use Rattle.records.specs.declared.framing.Frame.{Frame}

@@ -29,10 +29,6 @@ unfolding faultyGroup gateNumber number gateBody two
 gate-sound always = refl
 gate-sound if-opened = refl
 
-pub gate-length : (one : Gate) → length (gateBody one) ≡ 2
-unfolding gateBody two
-gate-length one = refl
-
 module _ (body : List ℕ) (sound : faultyGroup body ≡ false) where
   pub group-length : length body ≡ 2
   unfolding faultyGroup

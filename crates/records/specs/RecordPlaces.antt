@@ -6,7 +6,7 @@ use mathlib.Core.List.{List, [], _∷_}
 use native.Mathlib.Nat.{sub-zero, zero-sub, suc-sub-suc}
 use native.Mathlib.Omega.{arith}
 use lib.Dec.{eqb}
-use lib.ListN.{length, take, drop, length-drop}
+use lib.ListN.{length, take, drop}
 use lib.Seq.{drop-drop, drop-nil, take-nil, take-take}
 use Rattle.paper.specs.Groups.{replace, single-letter, Rule, always, if-opened}
 use Rattle.paper.specs.TestLaws.{by-test}

@@ -19,14 +19,10 @@ pub ending-read : (one : Rule) → ending (ruleBody one) ≡ one .ending
 unfolding ending ruleBody
 ending-read one = take-append-seam (one .ending) (written (one .action))
 
-pub replacement-read : (one : Rule) → replacement (ruleBody one) ≡ written (one .action)
+replacement-read : (one : Rule) → replacement (ruleBody one) ≡ written (one .action)
 unfolding replacement ruleBody
 replacement-read one =
     sym (drop-drop (length (one .ending)) 4 (ruleBody one)) ∙ drop-append-seam (one .ending) (written (one .action))
-
-pub rule-length : (one : Rule) → length (ruleBody one) ≡ 4 + (length (one .ending) + length (written (one .action)))
-unfolding ruleBody
-rule-length one = omega (arith, length-append (one .ending) (written (one .action)))
 
 action-read : (action : Action) → cond (eqb (numberOfAction action) 0) (replace (written action)) single-letter ≡ action
 action-read (replace s2) = refl
@@ -80,13 +76,6 @@ replacement-letters : (one : Rule) (action : Action) → allowedAction one actio
 unfolding allowedAction atMost12 allSmall
 replacement-letters one (replace s2) fits = and-right (leb (length s2) 12) (allSmall s2) fits
 replacement-letters one single-letter fits = refl
-
-pub length-at-most : (one : Rule) → allowed one ≡ true → length (ruleBody one) ≤ 28
-length-at-most one all =
-    let is = bounds one all in
-    let a = short-replacement one (one .action) (is .fit-action) in
-    let b = is .short-ending in
-    rw (rule-length one) (omega arith)
 
 action-low : (action : Action) → numberOfAction action ≤ 1
 action-low (replace s2) = omega arith

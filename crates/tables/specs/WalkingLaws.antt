@@ -6,7 +6,7 @@ use mathlib.Core.List.{List, [], _∷_}
 use native.Mathlib.Numerals.{add-one}
 use native.Mathlib.Omega.{arith}
 use lib.Dec.{eqb}
-use lib.ListN.{length, take, drop, length-take}
+use lib.ListN.{length, take, length-take}
 use lib.Seq.{take-length}
 use Rattle.paper.specs.Groups.{Rule, Gate, always, if-opened, Group, runs, Turn, steps, done, outgrown, reading, through}
 use Rattle.paper.specs.TurnLaws.{turn-skipped, turn-run, turn-outgrown}

@@ -1,14 +1,14 @@
 -- `records::record_at` meets its contract: the frame says whether the record is cut, and the tests of its kind the rest.
-use Prim.Native.Nat.{ℕ, _-_, _≤_}
+use Prim.Native.Nat.{ℕ, _-_}
 use mathlib.Core.Path.{_≡_, sym, _∙_}
-use mathlib.Core.Bool.{true, false}
+use mathlib.Core.Bool.{true}
 use mathlib.Core.List.{List}
 use native.Mathlib.Omega.{arith}
 use borrow.Author.Tests.{eq-eqb, ne-eqb}
 use lib.ListN.{length, take, drop, length-drop}
 use Rattle.records.specs.declared.framing.Frame.the-variants.{Whole, Cut}
 use Rattle.records.specs.declared.Record.the-variants.{End, Faulty}
-use Rattle.records.specs.Framing.{bodyLength, kind, recordLength, after, cut, bodyPlace, nextPlace}
+use Rattle.records.specs.Framing.{bodyLength, recordLength, after, cut, bodyPlace, nextPlace}
 use Rattle.records.specs.FramingLaws.{FramedAt, framed, length-after}
 use Rattle.records.specs.Records.{faultyEnd, byKind}
 use Rattle.records.specs.RecordAnswers.{groupRecord, ruleRecord, endRecord, recordAt}

@@ -1,6 +1,6 @@
 -- `siblings::laying_out::lay` meets its contract. The loop's invariant: the numbers so far are those of the rules so far, and the
 -- rest of the sheet holds the rules that are left.
-use Prim.Native.Nat.{_+_, _*_, _-_, _≤_}
+use Prim.Native.Nat.{_*_, _-_, _≤_}
 use mathlib.Core.Path.{_≡_, sym, _∙_}
 use native.Mathlib.Omega.{arith}
 use lib.ListN.{length}

@@ -1,5 +1,5 @@
 -- `tables::runs::obeys` meets its contract: the tests, one by one.
-use mathlib.Core.Path.{_≡_, sym}
+use mathlib.Core.Path.{sym}
 use native.Mathlib.Omega.{arith}
 use lib.Seq.{length-take-le}
 use Rattle.siblings.specs.Children.{nodesIn}
