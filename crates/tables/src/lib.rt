@@ -4,7 +4,6 @@ ghost use Rattle.tables.specs.RunAnswers.{numberOfRan, valueOfRan};
 ghost use Rattle.tables.specs.RunOutcomes.{runOutcome};
 ghost use mathlib.Core.Path.{_≡_};
 
-mod paths;
 mod runs;
 mod word_runs;
 

@@ -9,8 +9,8 @@ ghost use Rattle.walks.specs.Walk.{walkGroup, walkWord};
 ghost use Rattle.tables.specs.WalkAnswers.{WalkedAs};
 ghost use Rattle.tables.specs.GroupStepLaws.{Stepped};
 ghost use Rattle.tables.specs.TryLaws.{Readable, PickedAs, picked, rulesOf, obeys as obeysOf};
-use crate::paths::deepest;
-use crate::paths::held_at;
+use paths::deepest;
+use paths::held_at;
 use records::Record;
 use records::reader::draw;
 

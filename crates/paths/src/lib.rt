@@ -1,6 +1,6 @@
-// Walking a table: the paths that a word's and an ending's letters take from a root.
+// Walking a table: the paths that a word's and an ending's letters take from a root. Any numbers may be given: a root that the
+// table does not have holds no rule and has no child.
 ghost use mathlib.Core.Path.{_≡_};
-ghost use Prim.Native.Nat.{_<_};
 ghost use Rattle.paper.specs.Letters.{inward};
 ghost use Rattle.siblings.specs.Children.{nodesIn};
 ghost use Rattle.walks.specs.Walk.{deepest as deepestOf, reached, held};
@@ -9,10 +9,12 @@ use siblings::nodes::child;
 use siblings::nodes::number_at;
 
 // The rule that the deepest node passed holds, of those that hold one, when the word's letters are followed from the root.
-pub(crate) fn deepest(table: &[u16], root: usize, word: &[u8]) -> usize
-    requires { ⌜ root < 65536 ⌝ }
+pub fn deepest(table: &[u16], root: usize, word: &[u8]) -> usize
     ensures { λ r. ⌜ r ≡ deepestOf (nodesIn (now (table .entry))) root (inward (now (word .entry))) ⌝ }
 {
+    if table.len() <= root {
+        return 0;
+    }
     let mut at = root;
     let mut found = number_at(table, 4 * root + 3);
     let mut left = word.len();
@@ -31,10 +33,12 @@ pub(crate) fn deepest(table: &[u16], root: usize, word: &[u8]) -> usize
 }
 
 // The rule that the node holds to which an ending's letters lead from the root, 0 for none.
-pub(crate) fn held_at(table: &[u16], root: usize, ending: &[u8]) -> usize
-    requires { ⌜ root < 65536 ⌝ }
+pub fn held_at(table: &[u16], root: usize, ending: &[u8]) -> usize
     ensures { λ r. ⌜ r ≡ held (nodesIn (now (table .entry))) (reached (nodesIn (now (table .entry))) root (now (ending .entry))) ⌝ }
 {
+    if table.len() <= root {
+        return 0;
+    }
     let mut at = root;
     let mut left = ending.len();
     while 0 < left {

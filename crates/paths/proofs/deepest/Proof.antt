@@ -1,6 +1,6 @@
--- `tables::paths::deepest` meets its contract: the deepest rule. The loop's invariant: the whole walk finds what the rest of
+-- `paths::deepest` meets its contract: the deepest rule. The loop's invariant: the whole walk finds what the rest of
 -- it finds, or else what was found so far.
-use Prim.Native.Nat.{_<_, _≤_}
+use Prim.Native.Nat.{_<_, _≤_, _^_}
 use mathlib.Core.Path.{_≡_, sym, _∙_}
 use native.Mathlib.Omega.{arith}
 use borrow.Author.Needs.{needs}
@@ -10,17 +10,22 @@ use Rattle.paper.specs.Letters.{inward}
 use Rattle.siblings.specs.Children.{nodesIn}
 use Rattle.walks.specs.Walk.{deepest as deepestOf}
 use Rattle.walks.specs.WalkSteps.{orFound, deepest-start, LetterStep, step-missing, step-holding, step-empty, word-over}
-use Rattle.tables.proofs.paths.deepest.Statement.{statement}
-use Rattle.tables.proofs.paths.deepest.Tie as tie
+use Rattle.paths.specs.BeyondLaws.{deepest-beyond}
+use Rattle.paths.proofs.deepest.Statement.{statement}
+use Rattle.paths.proofs.deepest.Tie as tie
 
 abbrev Inv-loop : tie.InvT-loop
 Inv-loop table root word at₀ found₀ left₀ at found left =
     (deepestOf (nodesIn table) root (inward word) ≡ orFound (nodesIn table) at found (inward (take left word)))
-    × (at < 65536)
+    × (at < 2 ^ 62)
     × (left ≤ length word)
 
 abbrev μ-loop : tie.MeasureT-loop
 μ-loop table root word at₀ found₀ left₀ at found left = left
+
+-- the table has no such root
+returns : tie.Need-returns Inv-loop μ-loop
+returns c = sym (deepest-beyond _ _ (c .if1 .taken) _)
 
 mul-number-at : tie.Need-mul-number-at Inv-loop μ-loop
 mul-number-at c = omega arith
@@ -33,7 +38,7 @@ number-at-requires c κs = search needs
 
 loop-holds : tie.Need-loop-holds Inv-loop μ-loop
 loop-holds c =
-    let a = c .before .before .before .args in (
+    let a = c .before .before .before .before .args in (
       rw (c .number-at .ensures .0, take-length) (deepest-start (nodesIn (a .table .now)) (a .root) (inward (a .word .now))),
       omega arith,
       omega arith,
@@ -53,7 +58,7 @@ child-requires c κs = search needs
 
 -- one letter further
 step-of : (c : tie.After-child Inv-loop μ-loop)
-    → (let a = c .before .before .before .before .before .before .before .before .args in
+    → (let a = c .before .before .before .before .before .before .before .before .before .args in
     let now = c .before .before .before .before .loop in
     LetterStep (nodesIn (a .table .now)) (a .word .now) (now .at) (now .left) (c .before .wide .result) (c .child .result))
 step-of c =
@@ -64,10 +69,10 @@ step-of c =
       stepped = c .child .ensures .0;
     }
 
-returns : tie.Need-returns Inv-loop μ-loop
-returns c =
+returns-2 : tie.Need-returns-2 Inv-loop μ-loop
+returns-2 c =
     let now = c .before .before .before .before .before .loop in
-    sym (now .inv .0 ∙ step-missing (step-of (c .before)) (now .found) (c .if1 .taken))
+    sym (now .inv .0 ∙ step-missing (step-of (c .before)) (now .found) (c .if2 .taken))
 
 mul-number-at-2 : tie.Need-mul-number-at-2 Inv-loop μ-loop
 mul-number-at-2 c = omega arith
@@ -85,8 +90,8 @@ loop-again : tie.Need-loop-again Inv-loop μ-loop
 loop-again c =
     let now = c .before .before .before .before .before .before .before .loop in
     let read = c .before .number-at2 .ensures .0 in (
-      now .inv .0 ∙ step-holding (step-of (c .before .before .before)) (now .found) _ read (c .before .before .if1 .left) (c .if2 .taken),
-      c .before .before .before .child .ensures .1,
+      now .inv .0 ∙ step-holding (step-of (c .before .before .before)) (now .found) _ read (c .before .before .if2 .left) (c .if3 .taken),
+      omega (arith, c .before .before .before .child .ensures .1),
       omega arith,
     )
 
@@ -97,18 +102,18 @@ loop-again-2 : tie.Need-loop-again-2 Inv-loop μ-loop
 loop-again-2 c =
     let now = c .before .before .before .before .before .before .before .loop in
     let read = c .before .number-at2 .ensures .0 in (
-      now .inv .0 ∙ step-empty (step-of (c .before .before .before)) (now .found) _ read (c .before .before .if1 .left) (c .if2 .left),
-      c .before .before .before .child .ensures .1,
+      now .inv .0 ∙ step-empty (step-of (c .before .before .before)) (now .found) _ read (c .before .before .if2 .left) (c .if3 .left),
+      omega (arith, c .before .before .before .child .ensures .1),
       omega arith,
     )
 
-returns-2 : tie.Need-returns-2 Inv-loop μ-loop
-returns-2 c =
+returns-3 : tie.Need-returns-3 Inv-loop μ-loop
+returns-3 c =
     let now = c .before .loop in
     sym (now .inv .0 ∙ word-over _ _ (now .at) (now .found) (now .left) (c .loop-test .left))
 
 pub deepest-spec : {M : Type 1} → statement M
 deepest-spec =
     tie.close
-    (tie.spec Inv-loop μ-loop mul-number-at add-number-at number-at-requires loop-holds sub-left shared-slice-read-wide wide-requires
-    child-requires returns mul-number-at-2 add-number-at-2 number-at-requires-2 loop-less loop-again loop-less-2 loop-again-2 returns-2)
+    (tie.spec Inv-loop μ-loop returns mul-number-at add-number-at number-at-requires loop-holds sub-left shared-slice-read-wide wide-requires
+    child-requires returns-2 mul-number-at-2 add-number-at-2 number-at-requires-2 loop-less loop-again loop-less-2 loop-again-2 returns-3)

@@ -1,0 +1,2 @@
+-- Roots that a table does not have.
+pub mod BeyondLaws
