@@ -49,6 +49,10 @@ conditions part =
 abbrev pub highest : ℕ
 highest = 8
 
+-- the conditions with which a rule may leave a single letter: "action 1 without condition 5 or 8" is faulty
+abbrev pub forSingle : ℕ → Bool
+forSingle number = eqb number 5 || eqb number 8
+
 -- the condition of this number holds of the part before the ending
 unfoldable pub holds : ℕ → List ℕ → Bool
 holds number part = getD (conditions part) number false

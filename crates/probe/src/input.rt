@@ -1,6 +1,8 @@
 // Reading the parts of a request. `io::read_full` reads on after a short read, so a slow pipe gives
 // the same requests as a file.
 use libc::STDIN_FILENO;
+use numbers::pair;
+use numbers::wide;
 ghost use Prim.Native.Nat.{_<_, _^_};
 ghost use Rattle.io.specs.Counts.{Counts};
 
@@ -70,14 +72,10 @@ fn numbers(bytes: &[u8], space: &mut [u16]) -> usize
         if bytes.len() < at + 2 {
             return i;
         }
-        space[i] = pair(bytes[at], bytes[at + 1]);
+        space[i] = pair(bytes[at], bytes[at + 1]) as u16;
         i += 1;
     }
     i
-}
-
-fn pair(low: u8, high: u8) -> u16 {
-    (low as u16) + 256 * (high as u16)
 }
 
 // A number that was read, as a place in a text, and whether all of its four bytes came.
@@ -98,10 +96,4 @@ pub fn read_place() -> Place {
 // The number that four bytes make, the lowest first.
 fn number(four: &[u8; 4]) -> usize {
     wide(four[0]) + 256 * (wide(four[1]) + 256 * (wide(four[2]) + 256 * wide(four[3])))
-}
-
-fn wide(b: u8) -> usize
-    ensures { λ r. ⌜ r < 256 ⌝ }
-{
-    b as usize
 }

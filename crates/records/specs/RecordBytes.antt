@@ -5,7 +5,7 @@ use mathlib.Core.Bool.{Bool, cond, _&&_, _||_}
 use mathlib.Core.List.{List, _∷_, _++_}
 use lib.Dec.{eqb, leb}
 use lib.ListN.{length}
-use Rattle.paper.specs.Conditions.{highest}
+use Rattle.paper.specs.Conditions.{forSingle, highest}
 use Rattle.paper.specs.Groups.{Action, replace, single-letter, written, numberOfAction, Rule, Gate, numberOfGate}
 use Rattle.paper.specs.Words.{allSmall}
 use Rattle.records.specs.Framing.{two}
@@ -29,7 +29,7 @@ atMost12 bytes = leb (length bytes) 12 && allSmall bytes
 -- a single letter has condition 5 or 8 and the empty S1
 unfoldable pub allowedAction : Rule → Action → Bool
 allowedAction rule (replace s2) = atMost12 s2
-allowedAction rule single-letter = (eqb (rule .condition) 5 || eqb (rule .condition) 8) && eqb (length (rule .ending)) 0
+allowedAction rule single-letter = forSingle (rule .condition) && eqb (length (rule .ending)) 0
 
 -- a rule within 01's bounds
 unfoldable pub allowed : Rule → Bool

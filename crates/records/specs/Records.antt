@@ -5,7 +5,7 @@ use mathlib.Core.Bool.{Bool, true, not, cond, _&&_, _||_}
 use mathlib.Core.List.{List}
 use lib.Dec.{eqb, ltb}
 use lib.ListN.{length, getD, take, drop}
-use Rattle.paper.specs.Conditions.{highest}
+use Rattle.paper.specs.Conditions.{forSingle, highest}
 use Rattle.paper.specs.Groups.{replace, single-letter, Rule, Gate, always, if-opened}
 use Rattle.paper.specs.Words.{allSmall}
 use Rattle.records.specs.Framing.{number, bodyLength, kind, body, after, cut}
@@ -81,7 +81,7 @@ faultyLetters body = ltb 12 (length (replacement body)) || outside (ending body)
 unfoldable pub faultyAction : List ℕ → Bool
 faultyAction body =
     eqb (actionNumber body) 1
-    && (not (eqb (condition body) 5 || eqb (condition body) 8)
+    && (not (forSingle (condition body))
     || not (eqb (length (ending body)) 0)
     || not (eqb (length (replacement body)) 0))
 

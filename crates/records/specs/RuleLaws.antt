@@ -9,7 +9,7 @@ use lib.Dec.{eqb, ltb}
 use lib.ListN.{length, drop, length-take, length-drop, take-append-drop}
 use lib.Seq.{drop-drop}
 use borrow.Author.Tests.{ltb-false, le-leb, eqb-true, eq-eqb, not-false}
-use Rattle.paper.specs.Conditions.{highest}
+use Rattle.paper.specs.Conditions.{forSingle, highest}
 use Rattle.paper.specs.Groups.{Action, replace, single-letter, written, numberOfAction, Rule}
 use Rattle.paper.specs.ListLaws.{empty}
 use Rattle.paper.specs.TestLaws.{none-of-three, none-of-six}
@@ -90,7 +90,7 @@ replacement-written (suc zero) s2 low none = sym (empty s2 (none refl))
 replacement-written (suc (suc a)) s2 low none = absurd (omega arith)
 
 action-allowed : (one : Rule) (a : ℕ) (s2 : List ℕ) → a ≤ 1 → atMost12 s2 ≡ true
-    → (a ≡ 1 → (eqb (one .condition) 5 || eqb (one .condition) 8 ≡ true) × (length (one .ending) ≡ 0))
+    → (a ≡ 1 → (forSingle (one .condition) ≡ true) × (length (one .ending) ≡ 0))
     → allowedAction one (actionOf a s2) ≡ true
 unfolding allowedAction
 action-allowed one zero s2 low short single = short
@@ -111,13 +111,13 @@ module _ (body : List ℕ) (none : faultyRule body ≡ false) where
 
   -- what action 1 asks
   single-only : actionNumber body ≡ 1
-      → (eqb (condition body) 5 || eqb (condition body) 8 ≡ true) × (length (ending body) ≡ 0) × (length (replacement body) ≡ 0)
+      → (forSingle (condition body) ≡ true) × (length (ending body) ≡ 0) × (length (replacement body) ≡ 0)
   unfolding faultyAction
   single-only one =
       let those =
-      none-of-three (not (eqb (condition body) 5 || eqb (condition body) 8)) (not (eqb (length (ending body)) 0))
+      none-of-three (not (forSingle (condition body))) (not (eqb (length (ending body)) 0))
       (not (eqb (length (replacement body)) 0)) (simp (eq-eqb (actionNumber body) 1 one) at (is .fit-action)) in (
-        not-false (eqb (condition body) 5 || eqb (condition body) 8) (those .0),
+        not-false (forSingle (condition body)) (those .0),
         eqb-true _ _ (not-false (eqb (length (ending body)) 0) (those .1)),
         eqb-true _ _ (not-false (eqb (length (replacement body)) 0) (those .2)),
       )

@@ -7,7 +7,7 @@ use lib.Dec.{eqb, leb}
 use lib.ListN.{length, length-append}
 use lib.Seq.{drop-drop, take-append-seam, drop-append-seam}
 use borrow.Author.Tests.{le-ltb, leb-true}
-use Rattle.paper.specs.Conditions.{highest}
+use Rattle.paper.specs.Conditions.{forSingle, highest}
 use Rattle.paper.specs.Groups.{Action, replace, single-letter, written, numberOfAction, Rule}
 use Rattle.paper.specs.TestLaws.{and-left, and-right}
 use Rattle.paper.specs.Words.{allSmall}
@@ -114,15 +114,15 @@ sound-letters one all =
 
 fits-action : (one : Rule) (action : Action) → allowedAction one action ≡ true
     → (eqb (numberOfAction action) 1
-    && (not (eqb (one .condition) 5 || eqb (one .condition) 8)
+    && (not (forSingle (one .condition))
     || not (eqb (length (one .ending)) 0)
     || not (eqb (length (written action)) 0)))
     ≡ false
 unfolding allowedAction
 fits-action one (replace s2) fits = refl
 fits-action one single-letter fits =
-    let condition-is = and-left (eqb (one .condition) 5 || eqb (one .condition) 8) (eqb (length (one .ending)) 0) fits in
-    let ending-is = and-right (eqb (one .condition) 5 || eqb (one .condition) 8) (eqb (length (one .ending)) 0) fits in
+    let condition-is = and-left (forSingle (one .condition)) (eqb (length (one .ending)) 0) fits in
+    let ending-is = and-right (forSingle (one .condition)) (eqb (length (one .ending)) 0) fits in
     simp (condition-is, ending-is)
 
 sound-action : (one : Rule) → allowed one ≡ true → faultyAction (ruleBody one) ≡ false

@@ -4,7 +4,7 @@ ghost use mathlib.Core.Bool.{not, _&&_, _||_};
 ghost use Prim.Native.Nat.{_+_, _<_};
 ghost use lib.Dec.{eqb, ltb};
 ghost use lib.ListN.{length};
-ghost use Rattle.paper.specs.Conditions.{highest};
+ghost use Rattle.paper.specs.Conditions.{forSingle, highest};
 ghost use Rattle.records.specs.Records.{ending, outside};
 ghost use Rattle.records.specs.RecordAnswers.{ruleRecord};
 use crate::Record;
@@ -39,7 +39,7 @@ fn faulty_letters(s1: &[u8], s2: &[u8]) -> bool
 
 // A single letter is asked for with another condition, or with letters.
 fn faulty_action(condition: u8, action: u8, ending: usize, replacement: usize) -> bool
-    ensures { λ r. ⌜ r ≡ eqb action 1 && (not (eqb condition 5 || eqb condition 8) || not (eqb ending 0) || not (eqb replacement 0)) ⌝ }
+    ensures { λ r. ⌜ r ≡ eqb action 1 && (not (forSingle condition) || not (eqb ending 0) || not (eqb replacement 0)) ⌝ }
 {
     (action == 1) & (!((condition == 5) | (condition == 8)) | (ending != 0) | (replacement != 0))
 }

@@ -65,7 +65,7 @@ step-of c =
     record {
       more = c .before .before .before .loop-test .taken;
       within = c .before .before .before .before .loop .inv .2;
-      last = c .before .wide .ensures;
+      last = c .before .wide .ensures .0;
       stepped = c .child .ensures .0;
     }
 

@@ -23,7 +23,7 @@ pair-requires c κs = search needs
 returns-2 : tie.Need-returns-2
 unfolding groupRecord faultyGroup gateNumber number
 returns-2 c =
-    simp (eq-eqb _ _ (c .before .before .before .before .if1 .left), ← c .before .pair .ensures, lt-ltb _ _ (c .if2 .taken))
+    simp (eq-eqb _ _ (c .before .before .before .before .if1 .left), ← c .before .pair .ensures .0, lt-ltb _ _ (c .if2 .taken))
 
 add-next : tie.Need-add-next
 add-next c = search needs
@@ -31,7 +31,7 @@ add-next c = search needs
 returns-3 : tie.Need-returns-3
 unfolding groupRecord faultyGroup gateNumber number
 returns-3 c =
-    simp (eq-eqb _ _ (c .before .before .before .before .if1 .left), ← c .before .pair .ensures, le-ltb _ _ (c .if2 .left))
+    simp (eq-eqb _ _ (c .before .before .before .before .if1 .left), ← c .before .pair .ensures .0, le-ltb _ _ (c .if2 .left))
 
 pub group-in-spec : {M : Type 1} → statement M
 group-in-spec =

@@ -41,6 +41,9 @@ shared-slice-read-pair-2 c = omega arith
 pair-requires : tie.Need-pair-requires Inv-loop μ-loop
 pair-requires c κs = search needs
 
+cast-space : tie.Need-cast-space Inv-loop μ-loop
+cast-space c = omega (arith, c .pair .ensures .1)
+
 mul-space : tie.Need-mul-space Inv-loop μ-loop
 mul-space c = omega arith
 
@@ -66,4 +69,4 @@ pub numbers-spec : {M : Type 1} → statement M
 numbers-spec =
     tie.close
     (tie.spec Inv-loop μ-loop loop-holds mul-at add-if1 same-length returns shared-slice-read-pair add-pair shared-slice-read-pair-2
-    pair-requires mul-space slice-write-space add-i loop-less loop-again same-length-2 returns-2)
+    pair-requires cast-space mul-space slice-write-space add-i loop-less loop-again same-length-2 returns-2)

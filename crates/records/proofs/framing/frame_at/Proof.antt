@@ -80,7 +80,7 @@ long c =
     omega arith
 
 returns-3 : tie.Need-returns-3
-returns-3 c = no-body _ _ _ (c .before .pair .ensures) (long (c .before)) (c .if3 .taken)
+returns-3 c = no-body _ _ _ (c .before .pair .ensures .0) (long (c .before)) (c .if3 .taken)
 
 add-pair-2 : tie.Need-add-pair-2
 add-pair-2 c = search needs
@@ -103,7 +103,7 @@ add-next c = search needs
 returns-4 : tie.Need-returns-4
 returns-4 c =
     let first = c .before .before .before .before in
-    not-cut _ _ _ (first .pair .ensures) (long first) (c .before .before .before .if3 .left) _ (c .pair2 .ensures)
+    not-cut _ _ _ (first .pair .ensures .0) (long first) (c .before .before .before .if3 .left) _ (c .pair2 .ensures .0)
 
 pub frame-at-spec : {M : Type 1} → statement M
 frame-at-spec =

@@ -48,7 +48,7 @@ part-result-end : tie.Need-part-result-end
 part-result-end c = search needs
 
 returns-2 : tie.Need-returns-2
-returns-2 c = all-there _ _ (c .before .before .wide .ensures) (c .before .if2 .taken)
+returns-2 c = all-there _ _ (c .before .before .wide .ensures .0) (c .before .if2 .taken)
 
 add-middle : tie.Need-add-middle
 add-middle c = search needs
@@ -63,7 +63,7 @@ part-result-end-2 : tie.Need-part-result-end-2
 part-result-end-2 c = search needs
 
 returns-3 : tie.Need-returns-3
-returns-3 c = part-there _ _ (c .before .before .wide .ensures)
+returns-3 c = part-there _ _ (c .before .before .wide .ensures .0)
 
 pub ending-in-spec : {M : Type 1} → statement M
 ending-in-spec =

@@ -8,7 +8,7 @@ use borrow.Author.Tests.{lt-ltb, le-ltb, ltb-false}
 use lib.Dec.{eqb, ltb}
 use lib.ListN.{length, take, drop, length-drop}
 use lib.Seq.{take-all}
-use Rattle.paper.specs.Conditions.{highest}
+use Rattle.paper.specs.Conditions.{forSingle, highest}
 use Rattle.paper.specs.TestLaws.{neither-right}
 use Rattle.records.specs.declared.Record.the-variants.{Rule, Faulty}
 use Rattle.records.specs.Records.{condition, actionNumber, opensNumber, endingLength, ending, replacement, endingPlace}
@@ -56,7 +56,7 @@ module _ (body : List ℕ) (n : ℕ) where
     unfolding faultyLetters
     letters-are = rw (s1-is, s2-is)
 
-    action-is : (eqb (actionNumber body) 1 && (not (eqb (condition body) 5 || eqb (condition body) 8)
+    action-is : (eqb (actionNumber body) 1 && (not (forSingle (condition body))
         || not (eqb (length s1) 0) || not (eqb (length s2) 0))) ≡ faultyAction body
     unfolding faultyAction
     action-is = rw (s1-is, s2-is)
@@ -105,7 +105,7 @@ wide-requires : tie.Need-wide-requires
 wide-requires c κs = search needs
 
 add-end : tie.Need-add-end
-add-end c = omega (arith, c .wide .ensures, c .before .shared-slice-known5 .given 3)
+add-end c = omega (arith, c .wide .ensures .0, c .before .shared-slice-known5 .given 3)
 
 above-requires : tie.Need-above-requires
 above-requires c κs = search needs
@@ -117,7 +117,7 @@ tested c = c .before .before .before .before .before .before .before .before .ar
 numbers : (c : tie.After-above) → c .above .result ≡ faultyNumbers (tested c)
 numbers c =
     let long = c .before .before .before .before .before .before .if1 .left in
-    c .above .ensures ∙ numbers-are _ _ (c .before .wide .ensures) long
+    c .above .ensures ∙ numbers-are _ _ (c .before .wide .ensures .0) long
 
 returns-2 : tie.Need-returns-2
 returns-2 c = by-numbers _ _ (sym (numbers (c .before)) ∙ c .if2 .taken)
@@ -151,7 +151,7 @@ faulty-letters-requires : tie.Need-faulty-letters-requires
 faulty-letters-requires c κs = search needs
 
 letters-test : (c : tie.After-faulty-letters) → c .faulty-letters .result ≡ faultyLetters (tested (c .before .before .before .before))
-letters-test c = c .faulty-letters .ensures ∙ letters-are _ _ (c .before .before .before .before .before .wide .ensures)
+letters-test c = c .faulty-letters .ensures ∙ letters-are _ _ (c .before .before .before .before .before .wide .ensures .0)
 
 returns-3 : tie.Need-returns-3
 returns-3 c = by-letters _ _ (numbers-sound (c .before .before .before .before)) (sym (letters-test (c .before)) ∙ c .if3 .taken)
@@ -164,7 +164,7 @@ letters-sound c = sym (letters-test (c .before)) ∙ c .if3 .left
 
 action-test : (c : tie.After-faulty-action)
     → c .faulty-action .result ≡ faultyAction (tested (c .before .before .before .before .before .before))
-action-test c = c .faulty-action .ensures ∙ action-is _ _ (c .before .before .before .before .before .before .before .wide .ensures)
+action-test c = c .faulty-action .ensures ∙ action-is _ _ (c .before .before .before .before .before .before .before .wide .ensures .0)
 
 returns-4 : tie.Need-returns-4
 returns-4 c =
@@ -185,7 +185,7 @@ returns-5 : tie.Need-returns-5
 returns-5 c =
     let past = c .before .before in
     let tests = past .before .before .before .before in
-    read _ _ (numbers-sound tests) (letters-sound past) _ (tests .before .before .wide .ensures)
+    read _ _ (numbers-sound tests) (letters-sound past) _ (tests .before .before .wide .ensures .0)
     (sym (action-test (c .before)) ∙ c .if4 .left)
 
 pub rule-in-spec : {M : Type 1} → statement M

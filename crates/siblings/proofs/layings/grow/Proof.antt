@@ -30,7 +30,7 @@ same-length c = search needs
 returns : tie.Need-returns
 returns c =
     let found = c .before .child .ensures .0 in
-    (grow-found _ _ _ _ _ _ (c .before .before .before .wide .ensures) found (c .if1 .taken), (omega arith, omega arith))
+    (grow-found _ _ _ _ _ _ (c .before .before .before .wide .ensures .0) found (c .if1 .taken), (omega arith, omega arith))
 
 sub-if2 : tie.Need-sub-if2
 sub-if2 c = search needs
@@ -41,7 +41,7 @@ same-length-2 c = search needs
 returns-2 : tie.Need-returns-2
 returns-2 c =
     let found = c .before .before .child .ensures .0 in (
-      grow-full _ _ _ _ _ _ (c .before .before .before .before .wide .ensures) found (c .before .if1 .left) (c .if2 .taken),
+      grow-full _ _ _ _ _ _ (c .before .before .before .before .wide .ensures .0) found (c .before .if1 .left) (c .if2 .taken),
       (omega arith, omega arith),
     )
 
@@ -68,7 +68,7 @@ same-length-3 c = search needs
 returns-3 : tie.Need-returns-3
 returns-3 c =
     let pre = c .before .before .before .before .before .before .before .before .before .before .before .before .pre in
-    let one = c .before .before .before .before .before .before .before .before .before .before .wide .ensures in
+    let one = c .before .before .before .before .before .before .before .before .before .before .wide .ensures .0 in
     let found = c .before .before .before .before .before .before .before .before .child .ensures .0 in
     let room = c .before .before .before .before .before .before .if2 .left in (
       grow-new _ _ _ _ _ _ one found _ _ (c .before .before .before .before .before .before .before .if1 .left) room

@@ -70,14 +70,14 @@ ends-requires c κs =
     let s = c .before .before .before .before .before .before .before .before .before in
     let known = below-at 62 (s .args .candidates .now) (c .before .before .before .loop .i) (s .pre .0 .0)
     (c .before .before .loop-test .taken) in
-    (omega (arith, c .wide .ensures, known), (s .pre .1 .0, s .pre .1 .1 .0))
+    (omega (arith, c .wide .ensures .0, known), (s .pre .1 .0, s .pre .1 .1 .0))
 
 size-requires : tie.Need-size-requires Inv-loop μ-loop
 size-requires c κs =
     let s = c .before .before .before .before .before .before .before .before .before .before .before in
     let known = below-at 62 (s .args .candidates .now) (c .before .before .before .before .before .loop .i) (s .pre .0 .0)
     (c .before .before .before .before .loop-test .taken) in
-    (omega (arith, c .before .before .wide .ensures, known), s .pre .1 .1 .0)
+    (omega (arith, c .before .before .wide .ensures .0, known), s .pre .1 .1 .0)
 
 sub-obeyed : tie.Need-sub-obeyed Inv-loop μ-loop
 sub-obeyed c = omega arith
@@ -95,7 +95,7 @@ ends-there : (c : tie.After-size Inv-loop μ-loop)
     EndsAt (a .word .now) (c .size .result) (a .candidates .now) (turn .loop .i))
 ends-there c =
     let s = c .before .before .before .before .before .before .before .before .before .before .before .before in
-    let same = c .before .before .before .wide .ensures in
+    let same = c .before .before .before .wide .ensures .0 in
     let at = c .before .before .before .before .before .before .loop in (
       ends-of (s .args .word .now) (s .args .candidates .now) (at .i) _ same (c .before .before .ends .ensures) (c .before .if1 .taken),
       size-of (s .args .word .now) (s .args .candidates .now) (at .i) _ same (c .size .ensures),
@@ -134,7 +134,7 @@ loop-again c =
     let candidates = s .args .candidates .now in
     let rule = ruleAt (getD candidates (at .i) 0) in
     let later = from-place candidates (at .i + 1) in
-    let other = ends-of word candidates (at .i) _ (c .before .before .wide .ensures) (c .before .ends .ensures) (c .if1 .left) in
+    let other = ends-of word candidates (at .i) _ (c .before .before .wide .ensures .0) (c .before .ends .ensures) (c .if1 .left) in
     let here = here-and-next candidates (at .i) (c .before .before .before .before .loop-test .taken) in (
       omega arith,
       sym (passed-by word rule later other) ∙ (rw here at (at .inv .1)),

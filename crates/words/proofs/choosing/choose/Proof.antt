@@ -53,8 +53,8 @@ sub-among c =
     omega (
       arith,
       index-of (c .before .before .before .before .before .before .before .before .before .before) .rising,
-      c .wide2 .ensures,
-      c .before .before .wide .ensures,
+      c .wide2 .ensures .0,
+      c .before .before .wide .ensures .0,
     )
 
 part-among-start : tie.Need-part-among-start
@@ -62,20 +62,20 @@ part-among-start c =
     omega (
       arith,
       index-of (c .before .before .before .before .before .before .before .before .before .before) .rising,
-      c .wide2 .ensures,
-      c .before .before .wide .ensures,
+      c .wide2 .ensures .0,
+      c .before .before .wide .ensures .0,
     )
 
 part-among-end : tie.Need-part-among-end
 part-among-end c =
-    omega (arith, index-of (c .before .before .before .before .before .before .before .before .before .before) .within, c .wide2 .ensures)
+    omega (arith, index-of (c .before .before .before .before .before .before .before .before .before .before) .within, c .wide2 .ensures .0)
 
 among-requires : tie.Need-among-requires
 among-requires c κs =
     let s = c .before .before .before .before .before .before .before .before .before .before .before in
     let index = index-of s in
     let taken = part-is (s .args .candidates .now) (s .args .blocks .now) (15 * s .args .group + s .args .column)
-    (c .before .before .before .wide .ensures) (c .before .wide2 .ensures) in (
+    (c .before .before .before .wide .ensures .0) (c .before .wide2 .ensures .0) in (
       (rw taken (rw rule-count at (index .block .known)), rw taken (block-ordered (s .args .group) (s .args .column) _ (index .block))),
       s .pre .1 .0,
     )
@@ -85,7 +85,7 @@ returns c =
     let s = c .before .before .before .before .before .before .before .before .before .before .before .before in
     let index = index-of s in
     let taken = part-is (s .args .candidates .now) (s .args .blocks .now) (15 * s .args .group + s .args .column)
-    (c .before .before .before .before .wide .ensures) (c .before .before .wide2 .ensures) in (
+    (c .before .before .before .before .wide .ensures .0) (c .before .before .wide2 .ensures .0) in (
       (rw taken at (c .among .ensures .0))
           ∙ by-block (s .args .word .now) (s .args .group) (s .args .column) _ (s .pre .1 .1) (index .block),
       c .among .ensures .1,

@@ -30,17 +30,17 @@ wide-requires-2 c κs = search needs
 sub-ends-with : tie.Need-sub-ends-with
 sub-ends-with c =
     let s = c .before .before .before .before .before .before .before in
-    omega (arith, ending-row _ _ (s .pre .0) (s .pre .1 .1) .size, c .wide2 .ensures, c .before .before .wide .ensures)
+    omega (arith, ending-row _ _ (s .pre .0) (s .pre .1 .1) .size, c .wide2 .ensures .0, c .before .before .wide .ensures .0)
 
 part-ends-with-start : tie.Need-part-ends-with-start
 part-ends-with-start c =
     let s = c .before .before .before .before .before .before .before in
-    omega (arith, ending-row _ _ (s .pre .0) (s .pre .1 .1) .size, c .wide2 .ensures, c .before .before .wide .ensures)
+    omega (arith, ending-row _ _ (s .pre .0) (s .pre .1 .1) .size, c .wide2 .ensures .0, c .before .before .wide .ensures .0)
 
 part-ends-with-end : tie.Need-part-ends-with-end
 part-ends-with-end c =
     let s = c .before .before .before .before .before .before .before in
-    omega (arith, ending-row _ _ (s .pre .0) (s .pre .1 .1) .within, c .wide2 .ensures, ap length (s .pre .1 .0))
+    omega (arith, ending-row _ _ (s .pre .0) (s .pre .1 .1) .within, c .wide2 .ensures .0, ap length (s .pre .1 .0))
 
 ends-with-requires : tie.Need-ends-with-requires
 ends-with-requires c κs = search needs
@@ -51,7 +51,7 @@ returns c =
     let s = read .before .before .before .before .before .before .before in
     let row = ending-row _ _ (s .pre .0) (s .pre .1 .1) in
     c .ends-with .ensures
-    ∙ ap (endsWith (s .args .word .now)) (rw (read .wide2 .ensures, read .before .before .wide .ensures, s .pre .1 .0) (row .part))
+    ∙ ap (endsWith (s .args .word .now)) (rw (read .wide2 .ensures .0, read .before .before .wide .ensures .0, s .pre .1 .0) (row .part))
 
 pub ends-spec : {M : Type 1} → statement M
 ends-spec =

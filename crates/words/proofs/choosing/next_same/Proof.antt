@@ -38,21 +38,21 @@ size-requires c κs =
     let s = c .before .before .before .before .before .before .before .before in
     let known = below-at 62 (s .args .candidates .now) (c .before .before .before .loop .i) (s .pre .0 .0)
     (c .before .before .loop-test .taken) in
-    (omega (arith, c .wide .ensures, known), s .pre .0 .1 .1)
+    (omega (arith, c .wide .ensures .0, known), s .pre .0 .1 .1)
 
 ends-requires : tie.Need-ends-requires Inv-loop μ-loop
 ends-requires c κs =
     let s = c .before .before .before .before .before .before .before .before .before .before in
     let known = below-at 62 (s .args .candidates .now) (c .before .before .before .before .before .loop .i) (s .pre .0 .0)
     (c .before .before .before .before .loop-test .taken) in
-    (omega (arith, c .before .before .wide .ensures, known), s .pre .0 .1)
+    (omega (arith, c .before .before .wide .ensures .0, known), s .pre .0 .1)
 
 returns : tie.Need-returns Inv-loop μ-loop
 returns c =
     let s = c .before .before .before .before .before .before .before .before .before .before .before .before in
     let at = c .before .before .before .before .before .before .before .loop in
     let candidates = s .args .candidates .now in
-    let same = c .before .before .before .before .wide .ensures in
+    let same = c .before .before .before .before .wide .ensures .0 in
     let ends = ends-of (s .args .word .now) candidates (at .i) _ same (c .before .ends .ensures) (c .if2 .taken) in
     let size = size-of (s .args .word .now) candidates (at .i) _ same (c .before .before .before .size .ensures)
     ∙ c .before .before .if1 .taken in
@@ -71,7 +71,7 @@ loop-again c =
     let word = s .args .word .now in
     let candidates = s .args .candidates .now in
     let rule = ruleAt (getD candidates (at .i) 0) in
-    let same = c .before .before .wide .ensures in
+    let same = c .before .before .wide .ensures .0 in
     let size = size-of word candidates (at .i) _ same (c .before .size .ensures) in
     let passed-over : obeys word (s .args .n) rule ≡ false =
     ⊎-elim (λ w. obeys-ends word (s .args .n) rule (ends-of word candidates (at .i) _ same (w .1 .ensures) (w .2 .left)))

@@ -71,7 +71,7 @@ shared-slice-read-holds c =
     let s = c .before .before .before .before .before .before .before .before .before .before in
     let known = below-at 62 (s .args .candidates .now) (c .before .before .before .before .loop .i) (s .pre .0 .0)
     (c .before .before .before .loop-test .taken) in
-    omega (arith, known, c .before .wide .ensures, ap length (s .pre .1 .1 .1), condition-count)
+    omega (arith, known, c .before .wide .ensures .0, ap length (s .pre .1 .1 .1), condition-count)
 
 sub-holds : tie.Need-sub-holds Inv-loop μ-loop
 sub-holds c =
@@ -81,7 +81,7 @@ sub-holds c =
     omega (
       arith,
       condition-of (s .args .conditions .now) (c .before .wide .result) (s .pre .1 .1 .1)
-          (omega (arith, known, c .before .wide .ensures)),
+          (omega (arith, known, c .before .wide .ensures .0)),
     )
 
 slice-aggregate-holds : tie.Need-slice-aggregate-holds Inv-loop μ-loop
@@ -99,7 +99,7 @@ returns c =
     let inside = c .before .before .before .before .before .before .loop-test .taken in
     let rule = getD candidates (at .i) 0 in
     let known = below-at 62 candidates (at .i) (s .pre .0 .0) inside in
-    let same : c .before .before .before .before .wide .result ≡ rule = c .before .before .before .before .wide .ensures in
+    let same : c .before .before .before .before .wide .result ≡ rule = c .before .before .before .before .wide .ensures .0 in
     let held = decided (s .args .word .now) candidates (s .args .conditions .now) (s .args .n) (at .i) _ (c .before .holds .result)
     (s .pre .1 .1 .1) known (at .inv .3 inside) same (c .before .holds .ensures) ∙ c .if1 .taken in
     let found = first-here (obeys (s .args .word .now) (s .args .n)) candidates (at .i) inside held in (
@@ -128,7 +128,7 @@ loop-again c =
     let known = below-at 62 candidates (at .i) (s .pre .0 .0) inside in
     let failed = decided (s .args .word .now) candidates (s .args .conditions .now) (s .args .n) (at .i) _
     (c .before .before .holds .result)
-    (s .pre .1 .1 .1) known (at .inv .3 inside) (c .before .before .before .before .before .wide .ensures)
+    (s .pre .1 .1 .1) known (at .inv .3 inside) (c .before .before .before .before .before .wide .ensures .0)
     (c .before .before .holds .ensures) ∙ c .before .if1 .left in
     let next = first-next (obeys (s .args .word .now) (s .args .n)) candidates (at .i) inside failed in (
       c .next-same .ensures .within,

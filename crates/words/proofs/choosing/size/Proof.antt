@@ -23,12 +23,12 @@ wide-requires-2 c κs = search needs
 sub-result : tie.Need-sub-result
 sub-result c =
     let s = c .before .before .before .before .before in
-    omega (arith, ending-row _ _ (s .pre .0) (s .pre .1) .size, c .wide2 .ensures, c .before .before .wide .ensures)
+    omega (arith, ending-row _ _ (s .pre .0) (s .pre .1) .size, c .wide2 .ensures .0, c .before .before .wide .ensures .0)
 
 returns : tie.Need-returns
 returns c =
     let s = c .before .before .before .before .before in
-    omega (arith, ending-row _ _ (s .pre .0) (s .pre .1) .size, c .wide2 .ensures, c .before .before .wide .ensures)
+    omega (arith, ending-row _ _ (s .pre .0) (s .pre .1) .size, c .wide2 .ensures .0, c .before .before .wide .ensures .0)
 
 pub size-spec : {M : Type 1} → statement M
 size-spec =

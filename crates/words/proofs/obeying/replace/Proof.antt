@@ -47,19 +47,19 @@ sub-put : tie.Need-sub-put
 sub-put c =
     let s = c .before .before .before .before .before .before .before .before in
     let row = row-of s in
-    omega (arith, row .size, c .before .wide2 .ensures, c .before .before .before .wide .ensures)
+    omega (arith, row .size, c .before .wide2 .ensures .0, c .before .before .before .wide .ensures .0)
 
 part-put-start : tie.Need-part-put-start
 part-put-start c =
     let s = c .before .before .before .before .before .before .before .before in
     let row = row-of s in
-    omega (arith, row .size, c .before .wide2 .ensures, c .before .before .before .wide .ensures)
+    omega (arith, row .size, c .before .wide2 .ensures .0, c .before .before .before .wide .ensures .0)
 
 part-put-end : tie.Need-part-put-end
 part-put-end c =
     let s = c .before .before .before .before .before .before .before .before in
     let row = row-of s in
-    omega (arith, row .within, c .before .wide2 .ensures, c .before .before .before .wide .ensures)
+    omega (arith, row .within, c .before .wide2 .ensures .0, c .before .before .before .wide .ensures .0)
 
 put-requires : tie.Need-put-requires
 put-requires c κs = search needs
@@ -71,8 +71,8 @@ sub-result c =
     omega (
       arith,
       row .size,
-      c .before .before .before .before .before .wide2 .ensures,
-      c .before .before .before .before .before .before .before .wide .ensures,
+      c .before .before .before .before .before .wide2 .ensures .0,
+      c .before .before .before .before .before .before .before .wide .ensures .0,
     )
 
 add-result : tie.Need-add-result
@@ -83,8 +83,8 @@ add-result c =
       arith,
       row .size,
       s .pre .1,
-      c .before .before .before .before .before .wide2 .ensures,
-      c .before .before .before .before .before .before .before .wide .ensures,
+      c .before .before .before .before .before .wide2 .ensures .0,
+      c .before .before .before .before .before .before .before .wide .ensures .0,
     )
 
 same-length : tie.Need-same-length
@@ -98,16 +98,16 @@ returns c =
     c .before .before .before .before .before .before .before .wide .result) (drop
     (c .before .before .before .before .before .before .before .wide .result) (s .args .replacements .now))
     ≡ written (ruleAt (s .args .rule) .action) = rw (
-      c .before .before .before .before .before .wide2 .ensures,
-      c .before .before .before .before .before .before .before .wide .ensures,
+      c .before .before .before .before .before .wide2 .ensures .0,
+      c .before .before .before .before .before .before .before .wide .ensures .0,
     ) (row .part) in
     let k : s .args .part + (c .before .before .before .before .before .wide2 .result -
     c .before .before .before .before .before .before .before .wide .result)
     ≡ s .args .part + length (written (ruleAt (s .args .rule) .action)) = omega (
       arith,
       row .size,
-      c .before .before .before .before .before .wide2 .ensures,
-      c .before .before .before .before .before .before .before .wide .ensures,
+      c .before .before .before .before .before .wide2 .ensures .0,
+      c .before .before .before .before .before .before .before .wide .ensures .0,
     ) in (
       follows (s .args .word .now) (c .before .before .put .last .0) (written (ruleAt (s .args .rule) .action))
           (s .args .part) _ (s .pre .1) (rw letters at (c .before .before .put .ensures)) k,
