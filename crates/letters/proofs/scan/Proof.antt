@@ -19,9 +19,10 @@ abbrev μ-loop : tie.MeasureT-loop
 nothing-passed-requires : tie.Need-nothing-passed-requires Inv-loop μ-loop
 nothing-passed-requires c κs = search needs
 
-loop-holds : tie.Need-loop-holds Inv-loop μ-loop
+-- where the loop begins: the constant is the table of two rows, by computation
+constant-is-the-class-table : tie.Need-loop-holds Inv-loop μ-loop
 unfolding classTable alphabet letters vowelAfter among
-loop-holds c =
+constant-is-the-class-table c =
     let made = c .nothing-passed .ensures in
     (omega arith, refl, omega (arith, made .0), made .1)
 
@@ -55,4 +56,5 @@ returns c =
 pub scan-spec : {M : Type 1} → statement M
 scan-spec =
     tie.close
-    (tie.spec Inv-loop μ-loop nothing-passed-requires loop-holds shared-slice-read-step step-requires add-i loop-less loop-again returns)
+    (tie.spec Inv-loop μ-loop nothing-passed-requires constant-is-the-class-table shared-slice-read-step step-requires add-i loop-less
+    loop-again returns)

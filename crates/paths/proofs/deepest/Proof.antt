@@ -115,5 +115,6 @@ returns-3 c =
 pub deepest-spec : {M : Type 1} → statement M
 deepest-spec =
     tie.close
-    (tie.spec Inv-loop μ-loop returns mul-number-at add-number-at number-at-requires loop-holds sub-left shared-slice-read-wide wide-requires
+    (tie.spec Inv-loop μ-loop returns mul-number-at add-number-at number-at-requires loop-holds sub-left shared-slice-read-wide
+    wide-requires
     child-requires returns-2 mul-number-at-2 add-number-at-2 number-at-requires-2 loop-less loop-again loop-less-2 loop-again-2 returns-3)

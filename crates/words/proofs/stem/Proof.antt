@@ -36,9 +36,10 @@ slice-aggregate-read-5 c = search needs
 slice-aggregate-read-6 : tie.Need-slice-aggregate-read-6
 slice-aggregate-read-6 c = search needs
 
-read-requires : tie.Need-read-requires
+-- "The list is held as a constant table": each table is a column of the list in `paper`, by computation
+tables-are-the-list : tie.Need-read-requires
 unfolding gateDigits candidateNumbers candidateStarts endingLetters endingStarts conditionDigits
-read-requires c κs = ((refl, (refl, refl)), (refl, (refl, refl)))
+tables-are-the-list c κs = ((refl, (refl, refl)), (refl, (refl, refl)))
 
 fill-requires : tie.Need-fill-requires
 fill-requires c κs = search needs
@@ -66,5 +67,5 @@ pub stem-spec : {M : Type 1} → statement M
 stem-spec =
     tie.close
     (tie.spec judge-requires enum-known-judged enum-told slice-aggregate-read slice-aggregate-read-2 slice-aggregate-read-3
-    slice-aggregate-read-4 slice-aggregate-read-5 slice-aggregate-read-6 read-requires fill-requires same-length returns
+    slice-aggregate-read-4 slice-aggregate-read-5 slice-aggregate-read-6 tables-are-the-list fill-requires same-length returns
     same-length-2 returns-2)

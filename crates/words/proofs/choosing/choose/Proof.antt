@@ -68,7 +68,11 @@ part-among-start c =
 
 part-among-end : tie.Need-part-among-end
 part-among-end c =
-    omega (arith, index-of (c .before .before .before .before .before .before .before .before .before .before) .within, c .wide2 .ensures .0)
+    omega (
+      arith,
+      index-of (c .before .before .before .before .before .before .before .before .before .before) .within,
+      c .wide2 .ensures .0,
+    )
 
 among-requires : tie.Need-among-requires
 among-requires c κs =

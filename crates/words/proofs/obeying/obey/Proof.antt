@@ -72,9 +72,10 @@ returns-3 c =
 slice-aggregate-replace : tie.Need-slice-aggregate-replace
 slice-aggregate-replace c = search needs
 
-replace-requires : tie.Need-replace-requires
+-- the tables of the replacements are those of the list in `paper`, by computation
+replacements-are-the-list : tie.Need-replace-requires
 unfolding replacementLetters replacementStarts
-replace-requires c κs =
+replacements-are-the-list c κs =
     let s = c .before .before .before .before .before .before .before .before .before .before in
     ((s .pre .0 .0, (refl, refl)), s .pre .1)
 
@@ -93,5 +94,6 @@ returns-4 c =
 pub obey-spec : {M : Type 1} → statement M
 obey-spec =
     tie.close
-    (tie.spec single-requires returns sub-result returns-2 removes-requires returns-3 slice-aggregate-replace replace-requires same-length
+    (tie.spec single-requires returns sub-result returns-2 removes-requires returns-3 slice-aggregate-replace replacements-are-the-list
+    same-length
     returns-4)

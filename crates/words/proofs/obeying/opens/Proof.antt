@@ -8,9 +8,10 @@ use Rattle.words.proofs.obeying.opens.Tie as tie
 array-read-result : tie.Need-array-read-result
 array-read-result c = search needs
 
-returns : tie.Need-returns
+-- the table is a column of the list in `paper`, by computation
+openings-are-the-list : tie.Need-returns
 unfolding openings
-returns c = opens-at (c .args .rule) (c .pre)
+openings-are-the-list c = opens-at (c .args .rule) (c .pre)
 
 pub opens-spec : {M : Type 1} → statement M
-opens-spec = tie.close (tie.spec array-read-result returns)
+opens-spec = tie.close (tie.spec array-read-result openings-are-the-list)

@@ -8,9 +8,10 @@ use Rattle.words.proofs.obeying.single.Tie as tie
 array-read-result : tie.Need-array-read-result
 array-read-result c = search needs
 
-returns : tie.Need-returns
+-- the table is a column of the list in `paper`, by computation
+singles-are-the-list : tie.Need-returns
 unfolding singles
-returns c = single-at (c .args .rule) (c .pre)
+singles-are-the-list c = single-at (c .args .rule) (c .pre)
 
 pub single-spec : {M : Type 1} → statement M
-single-spec = tie.close (tie.spec array-read-result returns)
+single-spec = tie.close (tie.spec array-read-result singles-are-the-list)
