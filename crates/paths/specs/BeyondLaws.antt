@@ -5,8 +5,8 @@ use mathlib.Core.Path.{_≡_}
 use mathlib.Core.List.{List, [], _∷_}
 use mathlib.Core.Option.{none}
 use lib.ListN.{length, List·getD-eq-default}
-use Rattle.siblings.specs.Children.{nodesIn}
-use Rattle.siblings.specs.ChildLaws.{child-beyond}
+use Rattle.paths.specs.Children.{nodesIn}
+use Rattle.paths.specs.ChildLaws.{child-beyond}
 use Rattle.walks.specs.Walk.{deepest, onward, reached, held}
 
 module _ (table : List ℕ) (root : ℕ) (beyond : length table ≤ root) where

@@ -1,12 +1,45 @@
-// Walking a table: the paths that a word's and an ending's letters take from a root. Any numbers may be given: a root that the
-// table does not have holds no rule and has no child.
+// The nodes of a table, and the paths that a word's and an ending's letters take through them. Any numbers may be given: where the
+// table has no number, 0 is read, and a node that it does not have holds no rule and has no child.
 ghost use mathlib.Core.Path.{_≡_};
+ghost use Prim.Native.Nat.{_<_};
+ghost use lib.ListN.{getD};
 ghost use Rattle.paper.specs.Letters.{inward};
-ghost use Rattle.siblings.specs.Children.{nodesIn};
 ghost use Rattle.walks.specs.Walk.{deepest as deepestOf, reached, held};
+ghost use Rattle.paths.specs.Children.{child as childOf, nodesIn};
 use numbers::wide;
-use siblings::nodes::child;
-use siblings::nodes::number_at;
+
+// The number at a place of the table.
+pub fn number_at(table: &[u16], place: usize) -> usize
+    ensures { λ r. ⌜ (r ≡ getD (now (table .entry)) place 0) × (r < 65536) ⌝ }
+{
+    if place < table.len() {
+        table[place] as usize
+    } else {
+        0
+    }
+}
+
+// The child of this letter, 0 for none.
+pub fn child(table: &[u16], parent: usize, letter: usize) -> usize
+    ensures { λ r. ⌜ (r ≡ childOf (now (table .entry)) parent letter) × (r < 65536) ⌝ }
+{
+    if table.len() <= parent {
+        return 0;
+    }
+    let mut at = number_at(table, 4 * parent + 1);
+    let mut steps = table.len();
+    while 0 < steps {
+        if at == 0 {
+            return 0;
+        }
+        if letter == number_at(table, 4 * at) {
+            return at;
+        }
+        at = number_at(table, 4 * at + 2);
+        steps -= 1;
+    }
+    0
+}
 
 // The rule that the deepest node passed holds, of those that hold one, when the word's letters are followed from the root.
 pub fn deepest(table: &[u16], root: usize, word: &[u8]) -> usize

@@ -10,7 +10,7 @@ use lib.Seq.{getD-drop}
 use borrow.Author.Tests.{ne-eqb}
 use Rattle.siblings.specs.Layout.{Node, node, sameNode, letterOf, isChild, isSibling, rows}
 use Rattle.paper.specs.Numbered.{numberOf}
-use Rattle.siblings.specs.Children.{letter, firstChild, nextSibling, firstRule, inChain, child}
+use Rattle.paths.specs.Children.{letter, firstChild, nextSibling, firstRule, inChain, child}
 use Rattle.paper.specs.TestLaws.{by-test}
 use Rattle.paper.specs.NumberedLaws.{number-cong}
 use Rattle.siblings.specs.KinLaws.{child-letter, no-child, child-siblings, root-no-child}

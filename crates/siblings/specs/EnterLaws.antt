@@ -8,7 +8,7 @@ use lib.Dec.{eqb, leb}
 use lib.ListN.{length, take, length-append}
 use Rattle.paper.specs.Letters.{inward}
 use Rattle.siblings.specs.Layout.{Node, node, present, way, added}
-use Rattle.siblings.specs.Children.{child}
+use Rattle.paths.specs.Children.{child}
 use Rattle.siblings.specs.Laying.{endOf, Laying, grow, enter}
 use Rattle.paper.specs.TestLaws.{by-test}
 use Rattle.siblings.specs.StoreLaws.{hung-length}

@@ -5,7 +5,7 @@ use mathlib.Core.Bool.{cond}
 use mathlib.Core.List.{List, [], _∷_}
 use lib.Dec.{eqb, leb}
 use lib.ListN.{length, take, getD, set}
-use Rattle.siblings.specs.Children.{child, firstRule}
+use Rattle.paths.specs.Children.{child, firstRule}
 
 -- the place of the link with which a chain ends, from the link at this place on
 unfoldable pub chainEnd : ℕ → List ℕ → ℕ → ℕ

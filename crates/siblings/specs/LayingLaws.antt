@@ -18,7 +18,7 @@ use Rattle.siblings.specs.PresentLaws.{stands}
 use Rattle.siblings.specs.PathLaws.{letter-missing}
 use Rattle.siblings.specs.ChainLaws.{child-finds}
 use Rattle.siblings.specs.HangLaws.{hang-first, hang-later}
-use Rattle.siblings.specs.Children.{child}
+use Rattle.paths.specs.Children.{child}
 use Rattle.siblings.specs.Laying.{hung, endOf, Laying, grow}
 use Rattle.siblings.specs.ChainEndLaws.{Ends, no-more, last-child, parent-ends}
 use Rattle.siblings.specs.SoundLaws.{Distinct, Sound, absent-every, front-apart, back-apart, sound-node, new-row, present-last}

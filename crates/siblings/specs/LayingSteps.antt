@@ -7,7 +7,7 @@ use lib.ListN.{length, take, getD, set}
 use borrow.Author.Tests.{eq-eqb, ne-eqb, le-leb, lt-leb}
 use native.Mathlib.Numerals.{add-one}
 use Rattle.paper.specs.Letters.{inward}
-use Rattle.siblings.specs.Children.{letter, firstRule, child}
+use Rattle.paths.specs.Children.{letter, firstRule, child}
 use Rattle.siblings.specs.Laying.{chainEnd, endOf, hung, Laying, laying, grow, enter, note}
 use Rattle.walks.specs.WalkSteps.{inward-last}
 

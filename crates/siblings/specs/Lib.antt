@@ -1,12 +1,10 @@
 -- Document 01, "The table". First the definitions: the layout, and what a translation answers.
 pub mod Layout
-pub mod Children
 pub mod Translations
 -- Then 01's samples, and that the layout is faithful to its groups.
 pub mod TableSamples
 pub mod TranslationFaithful
 -- Laws of the layout: nodes, chains, paths, and how many nodes there are
-pub mod ChildLaws
 pub mod KinLaws
 pub mod PresentLaws
 pub mod ChainLaws

@@ -11,7 +11,7 @@ use lib.Seq.{getD-take, take-set-lt}
 use borrow.Author.Tests.{eqb-true, eqb-false}
 use Rattle.siblings.specs.Layout.{Node, node, sameNode, rows}
 use Rattle.paper.specs.Numbered.{numberOf}
-use Rattle.siblings.specs.Children.{firstRule}
+use Rattle.paths.specs.Children.{firstRule}
 use Rattle.siblings.specs.Laying.{Laying, note}
 use Rattle.paper.specs.TestLaws.{by-test}
 use Rattle.siblings.specs.KinLaws.{same-node-eq, same-node-refl}

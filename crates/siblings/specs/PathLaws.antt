@@ -10,7 +10,7 @@ use lib.Dec.{eqb, lit<}
 use Rattle.paper.specs.Groups.{Rule, same}
 use Rattle.siblings.specs.Layout.{Node, node, sameNode, present, rows}
 use Rattle.paper.specs.Numbered.{numberOf}
-use Rattle.siblings.specs.Children.{firstRule, child, nodesIn}
+use Rattle.paths.specs.Children.{firstRule, child, nodesIn}
 use Rattle.walks.specs.Walk.{onward, reached, held}
 use Rattle.walks.specs.Faithful.{exists, leads, FaithfulGroup}
 use Rattle.paper.specs.Numbered.{firstWith}

@@ -11,7 +11,7 @@ use borrow.Author.Tests.{ne-eqb, eq-eqb}
 use Rattle.paper.specs.Groups.{Group}
 use Rattle.siblings.specs.Layout.{Node, node, sameNode, present, roots, ends, nodesOf, rows, tableOf}
 use Rattle.paper.specs.Numbered.{numberOf}
-use Rattle.siblings.specs.Children.{nodesIn}
+use Rattle.paths.specs.Children.{nodesIn}
 use Rattle.walks.specs.Faithful.{leads, FaithfulFrom, Faithful}
 use Rattle.paper.specs.Numbered.{firstWith}
 use Rattle.siblings.specs.KinLaws.{same-node-refl}

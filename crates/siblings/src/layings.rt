@@ -4,9 +4,9 @@ ghost use Prim.Native.Nat.{_+_, _*_, _<_, _≤_};
 ghost use lib.ListN.{length, set};
 ghost use Rattle.paper.specs.Letters.{inward};
 ghost use Rattle.siblings.specs.Laying.{endOf, hung, laying, grow as growOf, enter, note};
-use crate::nodes::child;
-use crate::nodes::number_at;
 use numbers::wide;
+use paths::child;
+use paths::number_at;
 
 // The nodes so far, and the node that was reached.
 pub struct Grown {

@@ -5,7 +5,6 @@ ghost use Rattle.siblings.specs.Translations.{numberOfTranslated, valueO
 
 mod laying_out;
 mod layings;
-pub mod nodes;
 
 use laying_out::lay;
 use sheets::Checked;

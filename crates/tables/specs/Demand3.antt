@@ -8,7 +8,7 @@ use Rattle.paper.specs.Groups.{Group}
 use Rattle.paper.specs.Shipped.{shipped}
 use Rattle.paper.specs.Words.{readWord, stem, wordOutcome}
 use Rattle.siblings.specs.Layout.{tableOf}
-use Rattle.siblings.specs.Children.{nodesIn}
+use Rattle.paths.specs.Children.{nodesIn}
 use Rattle.walks.specs.Walk.{walkWord}
 use Rattle.walks.specs.FaithfulWalks.{faithful-walks-words}
 use Rattle.siblings.specs.TranslationFaithful.{translation-faithful}

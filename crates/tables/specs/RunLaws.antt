@@ -14,7 +14,7 @@ use Rattle.paper.specs.TestLaws.{apart}
 use Rattle.sheets.specs.Sheets.{Sheet, refused, accepted, readSheet}
 use Rattle.paper.specs.Nodes.{nodeCount}
 use Rattle.siblings.specs.Layout.{tableOf}
-use Rattle.siblings.specs.Children.{nodesIn}
+use Rattle.paths.specs.Children.{nodesIn}
 use Rattle.walks.specs.Walk.{walkWord}
 use Rattle.siblings.specs.Translations.{laidOut, translationOf, translation}
 use Rattle.sheets.specs.Accepted.{groupsIn, groupsOf}

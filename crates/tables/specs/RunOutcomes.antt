@@ -13,7 +13,7 @@ use Rattle.paper.specs.Nodes.{nodeCount}
 use Rattle.sheets.specs.SheetBytes.{sheetOf}
 use Rattle.sheets.specs.ShippedSheet.{reads}
 use Rattle.siblings.specs.Layout.{tableOf}
-use Rattle.siblings.specs.Children.{nodesIn}
+use Rattle.paths.specs.Children.{nodesIn}
 use Rattle.walks.specs.Walk.{walkWord}
 use Rattle.siblings.specs.Translations.{laidOut}
 use Rattle.paper.specs.GroupsLaws.{same-equal, same-itself}

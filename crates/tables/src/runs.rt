@@ -4,7 +4,7 @@ ghost use Prim.Native.Nat.{_+_, _-_, _<_, _≤_};
 ghost use lib.ListN.{length, take};
 ghost use Rattle.sheets.specs.Accepted.{groupsOf, Accepted};
 ghost use Rattle.sheets.specs.Sheets.{restAt};
-ghost use Rattle.siblings.specs.Children.{nodesIn};
+ghost use Rattle.paths.specs.Children.{nodesIn};
 ghost use Rattle.walks.specs.Walk.{walkGroup, walkWord};
 ghost use Rattle.tables.specs.WalkAnswers.{WalkedAs};
 ghost use Rattle.tables.specs.GroupStepLaws.{Stepped};

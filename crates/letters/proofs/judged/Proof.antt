@@ -26,23 +26,31 @@ double-requires-2 c κs = search needs
 
 returns : tie.Need-returns
 unfolding holds conditions lastIs
-returns c = rw (c .match .keys1) (cc)
+returns c =
+    let looked = c .before in
+    rw (c .match .keys1, looked .before .before .pre .1 .measure, looked .letter-at .ensures)
 
 returns-2 : tie.Need-returns-2
 unfolding holds conditions lastIs
-returns-2 c = rw (c .before .match .keys2) (cc)
+returns-2 c = let looked = c .before .before in rw (c .before .match .keys2, c .double .ensures, looked .letter-at .ensures)
 
 returns-3 : tie.Need-returns-3
 unfolding holds conditions lastIs
-returns-3 c = rw (c .before .match .keys3) (cc)
+returns-3 c =
+    let looked = c .before .before in
+    rw (c .before .match .keys3, looked .before .before .pre .1 .measure, c .short .ensures)
 
 returns-4 : tie.Need-returns-4
 unfolding holds conditions lastIs
-returns-4 c = rw (c .before .match .keys4) (cc)
+returns-4 c =
+    let looked = c .before .before in
+    rw (c .before .match .keys4, looked .before .before .pre .1 .measure, c .short2 .ensures)
 
 returns-5 : tie.Need-returns-5
 unfolding holds conditions lastIs
-returns-5 c = rw (c .before .match .keys5) (cc)
+returns-5 c =
+    let looked = c .before .before in
+    rw (c .before .match .keys5, looked .before .before .pre .1 .measure, c .double2 .ensures, looked .letter-at .ensures)
 
 returns-6 : tie.Need-returns-6
 unfolding holds conditions lastIs

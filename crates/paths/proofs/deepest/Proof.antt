@@ -7,7 +7,7 @@ use borrow.Author.Needs.{needs}
 use lib.ListN.{length, take}
 use lib.Seq.{take-length}
 use Rattle.paper.specs.Letters.{inward}
-use Rattle.siblings.specs.Children.{nodesIn}
+use Rattle.paths.specs.Children.{nodesIn}
 use Rattle.walks.specs.Walk.{deepest as deepestOf}
 use Rattle.walks.specs.WalkSteps.{orFound, deepest-start, LetterStep, step-missing, step-holding, step-empty, word-over}
 use Rattle.paths.specs.BeyondLaws.{deepest-beyond}

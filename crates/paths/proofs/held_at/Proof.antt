@@ -6,7 +6,7 @@ use mathlib.Core.Option.{some}
 use native.Mathlib.Omega.{arith}
 use borrow.Author.Needs.{needs}
 use lib.ListN.{length, drop}
-use Rattle.siblings.specs.Children.{nodesIn}
+use Rattle.paths.specs.Children.{nodesIn}
 use Rattle.walks.specs.Walk.{reached}
 use Rattle.walks.specs.WalkSteps.{LetterStep, reached-root, reached-on, reached-end, held-nowhere, held-reached}
 use Rattle.paths.specs.BeyondLaws.{held-beyond}

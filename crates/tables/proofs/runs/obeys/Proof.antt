@@ -2,7 +2,7 @@
 use mathlib.Core.Path.{sym}
 use native.Mathlib.Omega.{arith}
 use lib.Seq.{length-take-le}
-use Rattle.siblings.specs.Children.{nodesIn}
+use Rattle.paths.specs.Children.{nodesIn}
 use Rattle.tables.specs.TryLaws.{obeys-early, obeys-other, obeys-judged}
 use borrow.Author.Needs.{needs}
 use Rattle.tables.proofs.runs.obeys.Statement.{statement}

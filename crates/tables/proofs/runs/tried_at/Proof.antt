@@ -4,7 +4,7 @@ use mathlib.Core.Path.{sym, _∙_}
 use native.Mathlib.Omega.{arith}
 use lib.ListN.{length}
 use borrow.Author.Needs.{needs}
-use Rattle.siblings.specs.Children.{nodesIn}
+use Rattle.paths.specs.Children.{nodesIn}
 use Rattle.sheets.specs.SheetPlaces.{RuleNext, never-over, never-alone, rule-next}
 use Rattle.tables.specs.TryLaws.{Trying, trying-start, trying-group, trying-end, trying-here, trying-next}
 use Rattle.tables.proofs.runs.tried_at.Statement.{statement}

@@ -6,7 +6,7 @@ use mathlib.Core.List.{List}
 use lib.ListN.{take}
 use lib.Seq.{length-take-le}
 use Rattle.paper.specs.Groups.{Rule}
-use Rattle.siblings.specs.Children.{nodesIn}
+use Rattle.paths.specs.Children.{nodesIn}
 use Rattle.walks.specs.Walk.{walkGroup}
 use Rattle.sheets.specs.Sheets.{restAt}
 use Rattle.tables.specs.TryLaws.{rulesOf, none-picked-as, some-picked-as}

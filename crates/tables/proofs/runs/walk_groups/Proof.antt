@@ -6,7 +6,7 @@ use native.Mathlib.Omega.{arith}
 use lib.ListN.{length, take}
 use borrow.Author.Needs.{needs}
 use borrow.Author.Tests.{not-true, not-false}
-use Rattle.siblings.specs.Children.{nodesIn}
+use Rattle.paths.specs.Children.{nodesIn}
 use Rattle.sheets.specs.SheetPlaces.{GroupNext, RuleNext, never-over, never-alone, group-next, rule-next}
 use Rattle.tables.specs.WalkingLaws.{Walking, walking-start, walking-readable, walking-step, walking-outgrown, walking-skip}
 use Rattle.tables.specs.WalkingLaws.{walking-rule, walking-end}

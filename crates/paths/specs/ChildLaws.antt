@@ -5,7 +5,7 @@ use mathlib.Core.List.{List}
 use native.Mathlib.Omega.{arith}
 use lib.ListN.{length, getD, List·getD-eq-default}
 use borrow.Author.Tests.{eq-eqb, ne-eqb}
-use Rattle.siblings.specs.Children.{letter, nextSibling, inChain, child}
+use Rattle.paths.specs.Children.{letter, nextSibling, inChain, child}
 
 pub chain-none : (steps : ℕ) (table : List ℕ) (one at : ℕ) → at ≡ 0 → inChain steps table one at ≡ 0
 unfolding inChain

@@ -1,11 +1,11 @@
--- `siblings::nodes::number_at` meets its contract: a number of the table, or 0 beyond its end.
+-- `paths::number_at` meets its contract: a number of the table, or 0 beyond its end.
 use mathlib.Core.Path.{refl, sym}
 use native.Mathlib.Omega.{arith}
 use lib.Dec.{lit<}
 use lib.ListN.{List·getD-eq-default}
 use borrow.Author.Needs.{needs}
-use Rattle.siblings.proofs.nodes.number_at.Statement.{statement}
-use Rattle.siblings.proofs.nodes.number_at.Tie as tie
+use Rattle.paths.proofs.number_at.Statement.{statement}
+use Rattle.paths.proofs.number_at.Tie as tie
 
 mul-result : tie.Need-mul-result
 mul-result c = search needs

@@ -1,14 +1,14 @@
--- `siblings::nodes::child` meets its contract: the child of a letter. The loop's invariant: what the chain holds from here on
+-- `paths::child` meets its contract: the child of a letter. The loop's invariant: what the chain holds from here on
 -- is what it holds from its start.
 use Prim.Native.Nat.{_<_}
 use mathlib.Core.Path.{_≡_, sym, _∙_}
 use lib.Dec.{lit<}
 use native.Mathlib.Omega.{arith}
 use borrow.Author.Needs.{needs}
-use Rattle.siblings.specs.Children.{inChain, child as childOf}
-use Rattle.siblings.specs.ChildLaws.{child-beyond, chain-none, chain-here, chain-next, chain-end}
-use Rattle.siblings.proofs.nodes.child.Statement.{statement}
-use Rattle.siblings.proofs.nodes.child.Tie as tie
+use Rattle.paths.specs.Children.{inChain, child as childOf}
+use Rattle.paths.specs.ChildLaws.{child-beyond, chain-none, chain-here, chain-next, chain-end}
+use Rattle.paths.proofs.child.Statement.{statement}
+use Rattle.paths.proofs.child.Tie as tie
 
 abbrev Inv-loop : tie.InvT-loop
 Inv-loop table parent letter at₀ steps₀ at steps =
