@@ -1,12 +1,11 @@
 // The class of a letter, the measure, the nine conditions and the letter test of document 01, on byte slices. Every
 // function takes any bytes: a byte outside a to z is a consonant, and a number above 8 is no condition and does not hold.
 ghost use mathlib.Core.Path.{_≡_};
-ghost use mathlib.Core.Bool.{Bool, _||_};
 ghost use mathlib.Core.List.{List, [], _∷_, _++_};
 ghost use lib.Dec.{ltb};
 ghost use Prim.Native.Nat.{ℕ, _+_, _<_, _≤_, _^_};
 ghost use Rattle.paper.specs.Letters.{vowelAfter, letterAt, measure as measureOf};
-ghost use Rattle.paper.specs.Conditions.{*v*, *d, *o, lastIs, holds as holdsOf};
+ghost use Rattle.paper.specs.Conditions.{*v*, *d, *o, holds as holdsOf};
 ghost use Rattle.paper.specs.Groups.{endsWith};
 ghost use Rattle.paper.specs.Words.{firstOther};
 ghost use Rattle.letters.specs.Scan.{classTable, beforeRow, Scanned};

@@ -1,8 +1,8 @@
 // Which rule of a group a word obeys: the few that its last letter allows are looked at in turn.
 ghost use mathlib.Core.Path.{_≡_};
-ghost use mathlib.Core.Bool.{Bool, true};
-ghost use mathlib.Core.List.{List, map};
-ghost use Prim.Native.Nat.{ℕ, _<_, _≤_};
+ghost use mathlib.Core.Bool.{true};
+ghost use mathlib.Core.List.{map};
+ghost use Prim.Native.Nat.{_<_, _≤_};
 ghost use lib.ListN.{length};
 ghost use Rattle.paper.specs.Groups.{endsWith, first, obeyed as obeyedOf};
 ghost use Rattle.paper.specs.ReadingLaws.{obeys};

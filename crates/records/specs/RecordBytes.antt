@@ -1,7 +1,7 @@
 -- Document 01, "The sheet", from the other side: the bodies of groups and rules, and which rules are within 01's bounds. Nothing
 -- here reads a record.
 use Prim.Native.Nat.{ℕ}
-use mathlib.Core.Bool.{Bool, cond, _&&_, _||_}
+use mathlib.Core.Bool.{Bool, cond, _&&_}
 use mathlib.Core.List.{List, _∷_, _++_}
 use lib.Dec.{eqb, leb}
 use lib.ListN.{length}

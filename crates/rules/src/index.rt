@@ -1,5 +1,5 @@
 // An index of the shipped rules by group and last letter, so that few endings are compared. It is shown to hold every rule of
-// the group that can end the word (proofs/Candidates.antt). There is a column for each letter that an ending has last, and
+// the group that can end the word (readings/proofs/Candidates.antt). There is a column for each letter that an ending has last, and
 // column 0 for every other: a table costs what it takes to write it to the stack.
 
 // For each group and each column, the rules that a word with such a last letter may obey.

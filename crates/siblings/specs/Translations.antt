@@ -1,7 +1,7 @@
 -- Document 01, "Numbers returned": what a translation answers, and what it leaves in the lent table.
 use Prim.Native.Nat.{ℕ, _*_}
 use mathlib.Core.Bool.{cond}
-use mathlib.Core.List.{List, [], _++_}
+use mathlib.Core.List.{List, _++_}
 use lib.Dec.{ltb}
 use lib.ListN.{length, drop}
 use Rattle.paper.specs.Groups.{Group}

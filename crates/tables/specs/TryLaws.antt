@@ -13,11 +13,11 @@ use Rattle.paper.specs.Conditions.{holds}
 use Rattle.paper.specs.Groups.{Rule, Group, before}
 use Rattle.records.specs.RecordAnswers.{recordAt}
 use Rattle.records.specs.RecordPlaces.{RuleFacts}
-use Rattle.records.specs.declared.Record.the-variants.{Group as GroupRecord, Rule as RuleRecord, End as EndRecord}
+use Rattle.records.specs.declared.Record.the-variants.{Group as GroupRecord, End as EndRecord}
 use Rattle.sheets.specs.Sheets.{Rest, faulty-at, holding, restAt}
 use Rattle.walks.specs.Walk.{Nodes, reached, held}
 use Rattle.walks.specs.PickLaws.{pick}
-use Rattle.sheets.specs.SheetPlaces.{Holding, RuleNext, group-next, rule-next, end-next}
+use Rattle.sheets.specs.SheetPlaces.{Holding, RuleNext, group-next, end-next}
 
 -- the rules up to the next group, and the groups, that the rest of a sheet holds
 unfoldable pub rulesOf : Rest → List Rule
