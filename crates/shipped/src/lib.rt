@@ -4,11 +4,11 @@ ghost use Rattle.paper.specs.Shipped.{shipped};
 ghost use Rattle.sheets.specs.SheetBytes.{sheetOf};
 ghost use Rattle.siblings.specs.Layout.{tableOf};
 
-pub mod nodes;
-pub mod rules;
+pub mod sheet_bytes;
+pub mod table_numbers;
 
-use nodes::TABLE;
-use rules::SHEET;
+use sheet_bytes::SHEET;
+use table_numbers::TABLE;
 
 // The shipped sheet, whole.
 pub fn sheet() -> [u8; 861]
