@@ -10,9 +10,9 @@ pub extern "C" fn lunarbugle_stem(word: &mut [u8]) -> u64
     ensures { λ r. ⌜ r ≡ packed (outcome (now (word .entry))) ⌝ }
     ensures { λ _. ⌜ now (word .exit) ≡ outcome (now (word .entry)) .place ⌝ }
 {
-    let answer = words::stem(word);
-    let number = places::number(answer) as u64;
-    let value = places::value(answer) as u64;
+    let reply = answers::told(words::stem(word));
+    let number = reply.number as u64;
+    let value = reply.value as u64;
     number + 256 * value
 }
 
@@ -22,9 +22,9 @@ pub extern "C" fn lunarbugle_text(text: &mut [u8]) -> u64
     ensures { λ r. ⌜ r ≡ packedText (textOutcome stem (now (text .entry))) ⌝ }
     ensures { λ _. ⌜ now (text .exit) ≡ textOutcome stem (now (text .entry)) .text ⌝ }
 {
-    let answer = texts::run(text);
-    let number = texts::number(answer) as u64;
-    let stemmed = texts::stemmed(answer) as u64;
-    let left = texts::left(answer) as u64;
+    let reply = texts::told(texts::run(text));
+    let number = reply.number as u64;
+    let stemmed = reply.stemmed as u64;
+    let left = reply.left as u64;
     number + 256 * stemmed + 4294967296 * left
 }

@@ -1,3 +1,2 @@
--- What a call on a word answers, and what the functions on a word's place leave in it.
-pub mod WordAnswers
+-- What the functions on a word's place leave in it.
 pub mod Put

@@ -4,14 +4,14 @@
 // A request is one byte and its arguments; each kind of request has a file of its own. At a request
 // that is cut short, has another first byte or an argument over its bound, the program writes the
 // byte 255 and ends.
-mod input;
-mod output;
 mod sheet;
 mod table;
 mod text;
 mod word;
 
-use input::Start;
+use requests::input;
+use requests::input::Start;
+use requests::output;
 
 // Answers the request that begins with this byte, and says whether it was whole and known.
 fn answered(kind: u8) -> bool {

@@ -1,7 +1,7 @@
 // Request 5, a sheet and a table: the number returned, the value, and the table afterwards. Request 6, a sheet, a table and a
 // word: the number returned, the value, and the word's place afterwards.
-use crate::input;
-use crate::output;
+use requests::input;
+use requests::output;
 
 // Reads the arguments, answers, and says whether the request was whole. A sheet may have 16,384 bytes, a table 16,384 numbers.
 pub fn answered_translation() -> bool {
@@ -22,9 +22,8 @@ pub fn answered_translation() -> bool {
 }
 
 fn answer_translation(sheet: &[u8], table: &mut [u16]) {
-    let translated = siblings::translate(sheet, table);
-    output::byte(siblings::translated_number(translated));
-    output::number(siblings::translated_value(translated));
+    let reply = siblings::told(siblings::translate(sheet, table));
+    output::reply(reply.number, reply.value);
     output::table(table);
 }
 
@@ -57,8 +56,7 @@ pub fn answered_run() -> bool {
 }
 
 fn answer_run(sheet: &[u8], table: &[u16], word: &mut [u8]) {
-    let ran = tables::run(sheet, table, word);
-    output::byte(tables::ran_number(ran));
-    output::number(tables::ran_value(ran));
+    let reply = tables::told(tables::run(sheet, table, word));
+    output::reply(reply.number, reply.value);
     output::bytes(word);
 }

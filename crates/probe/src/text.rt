@@ -1,45 +1,40 @@
 // Request 2, a text: the number returned, the words stemmed, the words left, and the text afterwards. Request 3, a text and a
 // place: the offset and the length of the next word from there.
-use crate::input;
-use crate::output;
+use requests::input;
+use requests::output;
 
 // Reads the text, answers, and says whether the request was whole. A text may have 70,000 bytes.
 pub fn answered_run() -> bool {
     let mut space = [0u8; 70000];
-    let argument = input::read(&mut space);
-    if !argument.whole {
+    let text = input::read(&mut space);
+    if !text.whole {
         return false;
     }
-    let length = argument.length;
+    let length = text.length;
     answer_run(&mut space[..length]);
     true
 }
 
 fn answer_run(text: &mut [u8]) {
-    let ran = texts::run(text);
-    output::byte(texts::number(ran));
-    output::number(texts::stemmed(ran));
-    output::number(texts::left(ran));
+    let reply = texts::told(texts::run(text));
+    output::reply(reply.number, reply.stemmed);
+    output::number(reply.left);
     output::bytes(text);
 }
 
 pub fn answered_next() -> bool {
     let mut space = [0u8; 70000];
-    let argument = input::read(&mut space);
+    let text = input::read(&mut space);
     let from = input::read_place();
-    if !argument.whole {
+    if !text.whole {
         return false;
     }
     if !from.whole {
         return false;
     }
-    let length = argument.length;
-    answer_next(&space[..length], from.value);
-    true
-}
-
-fn answer_next(text: &[u8], from: usize) {
-    output::number(pieces::next_word_at(text, from));
-    let word = pieces::next_word(text, from);
+    let length = text.length;
+    output::number(pieces::next_word_at(&space[..length], from.value));
+    let word = pieces::next_word(&space[..length], from.value);
     output::number(word.len());
+    true
 }

@@ -1,22 +1,21 @@
 // Request 1, a word: the number returned, the value, and the word's place afterwards.
-use crate::input;
-use crate::output;
+use requests::input;
+use requests::output;
 
 // Reads the word, answers, and says whether the request was whole. A word may have 4,096 bytes.
 pub fn answered() -> bool {
     let mut space = [0u8; 4096];
-    let argument = input::read(&mut space);
-    if !argument.whole {
+    let word = input::read(&mut space);
+    if !word.whole {
         return false;
     }
-    let length = argument.length;
+    let length = word.length;
     answer(&mut space[..length]);
     true
 }
 
 fn answer(word: &mut [u8]) {
-    let answer = words::stem(word);
-    output::byte(places::number(answer));
-    output::number(places::value(answer));
+    let reply = answers::told(words::stem(word));
+    output::reply(reply.number, reply.value);
     output::bytes(word);
 }

@@ -1,4 +1,3 @@
 -- What the proofs of several functions share.
 pub mod Ensured
 pub mod Readers
-pub mod Taken

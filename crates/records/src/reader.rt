@@ -24,20 +24,6 @@ pub fn next<'a>(reader: Reader<'a>) -> Record
     record_at(reader.sheet, reader.at)
 }
 
-// The reader's place.
-pub fn place<'a>(reader: Reader<'a>) -> usize
-    ensures { λ r. ⌜ r ≡ reader .entry .at ⌝ }
-{
-    reader.at
-}
-
-// The caller's sheet, handed back.
-pub fn held<'a>(reader: Reader<'a>) -> &'a [u8]
-    ensures { λ r. ⌜ r ≡ reader .entry .sheet ⌝ }
-{
-    reader.sheet
-}
-
 // The record at a place of a sheet, drawn by a reader. Its callers need not know of the reader.
 pub fn draw(sheet: &[u8], at: usize) -> Record
     ensures { λ r. ⌜ r ≡ recordAt (now (sheet .entry)) at ⌝ }

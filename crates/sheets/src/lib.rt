@@ -6,6 +6,7 @@ ghost use Rattle.sheets.specs.CheckAnswers.{numberOf, valueOf, checked};
 
 mod nodes;
 
+use answers::Reply;
 use nodes::longest_shared;
 use records::Record;
 use records::reader::draw;
@@ -80,23 +81,18 @@ pub fn check(sheet: &[u8]) -> Checked
 }
 
 // Document 01's number for an answer, and what is returned besides it.
-pub fn number(answer: Checked) -> u8
-    ensures { λ r. ⌜ r ≡ numberOf answer ⌝ }
+pub fn told(answer: Checked) -> Reply
+    ensures { λ r. ⌜ r .number ≡ numberOf answer ⌝ }
+    ensures { λ r. ⌜ r .value ≡ valueOf answer ⌝ }
 {
     match answer {
-        Checked::Accepted {
-            nodes: _,
-            groups: _,
-        } => 0,
-        Checked::Refused(_) => 3,
-    }
-}
-
-pub fn value(answer: Checked) -> usize
-    ensures { λ r. ⌜ r ≡ valueOf answer ⌝ }
-{
-    match answer {
-        Checked::Accepted { nodes, groups: _ } => nodes,
-        Checked::Refused(place) => place,
+        Checked::Accepted { nodes, groups: _ } => Reply {
+            number: 0,
+            value: nodes,
+        },
+        Checked::Refused(place) => Reply {
+            number: 3,
+            value: place,
+        },
     }
 }

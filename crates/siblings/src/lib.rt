@@ -6,6 +6,7 @@ ghost use Rattle.siblings.specs.Translations.{numberOfTranslated, valueO
 mod laying_out;
 mod layings;
 
+use answers::Reply;
 use laying_out::lay;
 use sheets::Checked;
 
@@ -39,22 +40,22 @@ pub fn translate(sheet: &[u8], table: &mut [u16]) -> Translated
 }
 
 // Document 01's number for an answer, and what is returned besides it.
-pub fn translated_number(answer: Translated) -> u8
-    ensures { λ r. ⌜ r ≡ numberOfTranslated answer ⌝ }
+pub fn told(answer: Translated) -> Reply
+    ensures { λ r. ⌜ r .number ≡ numberOfTranslated answer ⌝ }
+    ensures { λ r. ⌜ r .value ≡ valueOfTranslated answer ⌝ }
 {
     match answer {
-        Translated::Nodes(_) => 0,
-        Translated::Refused(_) => 3,
-        Translated::Short => 6,
-    }
-}
-
-pub fn translated_value(answer: Translated) -> usize
-    ensures { λ r. ⌜ r ≡ valueOfTranslated answer ⌝ }
-{
-    match answer {
-        Translated::Nodes(count) => count,
-        Translated::Refused(place) => place,
-        Translated::Short => 0,
+        Translated::Nodes(count) => Reply {
+            number: 0,
+            value: count,
+        },
+        Translated::Refused(place) => Reply {
+            number: 3,
+            value: place,
+        },
+        Translated::Short => Reply {
+            number: 6,
+            value: 0,
+        },
     }
 }

@@ -4,8 +4,8 @@ use mathlib.Core.Path.{_≡_, refl}
 use mathlib.Core.Bool.{cond}
 use lib.Dec.{eqb}
 use Rattle.paper.specs.Settled.{Told}
-use Rattle.places.specs.WordAnswers.{numberOf, valueOf, answerOf}
-use Rattle.places.specs.declared.Answer.the-variants.{Done, WrongLength, OtherByte, Outgrown}
+use Rattle.answers.specs.WordAnswers.{numberOf, valueOf, answerOf}
+use Rattle.answers.specs.declared.Answer.the-variants.{Done, WrongLength, OtherByte, Outgrown}
 use Rattle.tables.specs.declared.Ran.{Ran}
 use Rattle.tables.specs.declared.Ran.the-variants.{Word, Refused, Table}
 

@@ -7,8 +7,9 @@ ghost use mathlib.Core.Path.{_≡_};
 mod runs;
 mod word_runs;
 
+use answers::Answer;
+use answers::Reply;
 use numbers::same_numbers;
-use places::Answer;
 use siblings::Translated;
 use siblings::translate;
 use word_runs::word_run;
@@ -45,22 +46,19 @@ pub fn run(sheet: &[u8], table: &[u16], word: &mut [u8]) -> Ran
 }
 
 // Document 01's number for an answer, and what is returned besides it.
-pub fn ran_number(answer: Ran) -> u8
-    ensures { λ r. ⌜ r ≡ numberOfRan answer ⌝ }
+pub fn told(answer: Ran) -> Reply
+    ensures { λ r. ⌜ r .number ≡ numberOfRan answer ⌝ }
+    ensures { λ r. ⌜ r .value ≡ valueOfRan answer ⌝ }
 {
     match answer {
-        Ran::Word(word) => places::number(word),
-        Ran::Refused(_) => 3,
-        Ran::Table => 7,
-    }
-}
-
-pub fn ran_value(answer: Ran) -> usize
-    ensures { λ r. ⌜ r ≡ valueOfRan answer ⌝ }
-{
-    match answer {
-        Ran::Word(word) => places::value(word),
-        Ran::Refused(place) => place,
-        Ran::Table => 0,
+        Ran::Word(word) => answers::told(word),
+        Ran::Refused(place) => Reply {
+            number: 3,
+            value: place,
+        },
+        Ran::Table => Reply {
+            number: 7,
+            value: 0,
+        },
     }
 }

@@ -65,33 +65,28 @@ pub fn run(text: &mut [u8]) -> TextRun
     TextRun::Done { stemmed, left }
 }
 
-// Document 01's number for an answer, and what is returned besides it.
-pub fn number(answer: TextRun) -> u8
-    ensures { λ r. ⌜ r ≡ numberOf answer ⌝ }
-{
-    match answer {
-        TextRun::Done {
-            stemmed: _,
-            left: _,
-        } => 0,
-        TextRun::TooLong => 5,
-    }
+// What is returned to a caller in numbers: document 01's number, the words stemmed and the words left.
+pub struct TextReply {
+    pub number: u8,
+    pub stemmed: usize,
+    pub left: usize,
 }
 
-pub fn stemmed(answer: TextRun) -> usize
-    ensures { λ r. ⌜ r ≡ stemmedOf answer ⌝ }
+pub fn told(answer: TextRun) -> TextReply
+    ensures { λ r. ⌜ r .number ≡ numberOf answer ⌝ }
+    ensures { λ r. ⌜ r .stemmed ≡ stemmedOf answer ⌝ }
+    ensures { λ r. ⌜ r .left ≡ leftOf answer ⌝ }
 {
     match answer {
-        TextRun::Done { stemmed, left: _ } => stemmed,
-        TextRun::TooLong => 0,
-    }
-}
-
-pub fn left(answer: TextRun) -> usize
-    ensures { λ r. ⌜ r ≡ leftOf answer ⌝ }
-{
-    match answer {
-        TextRun::Done { stemmed: _, left } => left,
-        TextRun::TooLong => 0,
+        TextRun::Done { stemmed, left } => TextReply {
+            number: 0,
+            stemmed,
+            left,
+        },
+        TextRun::TooLong => TextReply {
+            number: 5,
+            stemmed: 0,
+            left: 0,
+        },
     }
 }

@@ -1,14 +1,14 @@
 // The word stemmer: what is said of a word before it is read, the shipped rules read in its own place, and the spaces behind the stem.
 ghost use Rattle.paper.specs.Words.{outcome, Gives};
-ghost use Rattle.places.specs.WordAnswers.{numberOf, valueOf};
-use places::Answer;
-use places::Judged;
+ghost use Rattle.answers.specs.WordAnswers.{numberOf, valueOf};
+use answers::Answer;
+use answers::Judged;
 
 // The stem of a word, in its own place: afterwards it stands first and spaces fill the rest, or the word is as it came.
 pub fn stem(word: &mut [u8]) -> Answer
     ensures { λ r. ⌜ Gives (outcome (now (word .entry))) (numberOf r) (valueOf r) (now (word .exit)) ⌝ }
 {
-    let judged = places::judge(&word[..]);
+    let judged = answers::judge(&word[..]);
     match judged {
         Judged::Refused(answer) => answer,
         Judged::Taken => {

@@ -11,26 +11,23 @@ use Rattle.lunarbugle.proofs.lunarbugle_stem.Tie as tie
 stem-requires : tie.Need-stem-requires
 stem-requires c κs = search needs
 
-number-requires : tie.Need-number-requires
-number-requires c κs = search needs
+told-requires : tie.Need-told-requires
+told-requires c κs = search needs
 
 cast-number : tie.Need-cast-number
 cast-number c = search needs
-
-value-requires : tie.Need-value-requires
-value-requires c κs = search needs
 
 mul-result : tie.Need-mul-result
 mul-result c =
     let gives = c .before .before .before .before .stem .ensures in
     let bounds = outcome-bounds stem stem-never-lengthens (c .before .before .before .before .before .before .before .args .word .now) in
-    omega (arith, c .value .ensures, gives .value-is, bounds .value)
+    omega (arith, c .before .told .ensures .1, gives .value-is, bounds .value)
 
 add-result : tie.Need-add-result
 add-result c =
     let gives = c .before .before .before .before .stem .ensures in
     let bounds = outcome-bounds stem stem-never-lengthens (c .before .before .before .before .before .before .before .args .word .now) in
-    omega (arith, c .value .ensures, gives .value-is, bounds .value, c .before .number .ensures, gives .number-is, bounds .number)
+    omega (arith, c .before .told .ensures .1, gives .value-is, bounds .value, c .before .told .ensures .0, gives .number-is, bounds .number)
 
 same-length : tie.Need-same-length
 same-length c = search needs
@@ -39,9 +36,7 @@ returns : tie.Need-returns
 unfolding packed
 returns c =
     let gives = c .before .before .before .before .stem .ensures in
-    (omega (arith, c .value .ensures, gives .value-is, c .before .number .ensures, gives .number-is), gives .place-is)
+    (omega (arith, c .before .told .ensures .1, gives .value-is, c .before .told .ensures .0, gives .number-is), gives .place-is)
 
 pub lunarbugle-stem-spec : {M : Type 1} → statement M
-lunarbugle-stem-spec =
-    tie.close
-    (tie.spec stem-requires number-requires cast-number value-requires mul-result add-result same-length returns)
+lunarbugle-stem-spec = tie.close (tie.spec stem-requires told-requires cast-number mul-result add-result same-length returns)

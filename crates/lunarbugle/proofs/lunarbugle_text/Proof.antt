@@ -19,18 +19,16 @@ record Told (text : List ℕ) (number stemmed left : ℕ) : Type 0 where
   small : number ≤ 5
   few : stemmed + left ≤ 65536
 
-told : (c : tie.After-left)
-    → Told
-    (c .before .before .before .before .before .before .before .before .args .text .now)
-    (c .before .before .number .result)
-    (c .before .stemmed .result)
-    (c .left .result)
+told : (c : tie.After-struct-known)
+    → (let reply = c .before .told .result in
+    Told (c .before .before .before .before .before .before .before .args .text .now) (reply .number) (reply .stemmed) (reply .left))
 told c =
-    let text = c .before .before .before .before .before .before .before .before .args .text .now in
-    let gives = c .before .before .before .before .before .run .ensures in
-    let stemmed = c .before .stemmed .ensures ∙ gives .stemmed-is in
-    let left = c .left .ensures ∙ gives .left-is in
-    let number = c .before .before .number .ensures ∙ gives .number-is in
+    let text = c .before .before .before .before .before .before .before .args .text .now in
+    let gives = c .before .before .before .before .run .ensures in
+    let says = c .before .told .ensures in
+    let number = says .0 ∙ gives .number-is in
+    let stemmed = says .1 .0 ∙ gives .stemmed-is in
+    let left = says .1 .1 ∙ gives .left-is in
     record {
       is-number = number;
       is-stemmed = stemmed;
@@ -42,17 +40,11 @@ told c =
 run-requires : tie.Need-run-requires
 run-requires c κs = search needs
 
-number-requires : tie.Need-number-requires
-number-requires c κs = search needs
+told-requires : tie.Need-told-requires
+told-requires c κs = search needs
 
 cast-number : tie.Need-cast-number
 cast-number c = search needs
-
-stemmed-requires : tie.Need-stemmed-requires
-stemmed-requires c κs = search needs
-
-left-requires : tie.Need-left-requires
-left-requires c κs = search needs
 
 mul-result : tie.Need-mul-result
 mul-result c = omega (arith, told c .few)
@@ -73,11 +65,10 @@ returns : tie.Need-returns
 unfolding packedText
 returns c = (
   omega (arith, told c .is-number, told c .is-stemmed, told c .is-left),
-  c .before .before .before .before .before .run .ensures .text-is,
+  c .before .before .before .before .run .ensures .text-is,
 )
 
 pub lunarbugle-text-spec : {M : Type 1} → statement M
 lunarbugle-text-spec =
     tie.close
-    (tie.spec run-requires number-requires cast-number stemmed-requires left-requires mul-result add-result mul-result-2 add-result-2
-    same-length returns)
+    (tie.spec run-requires told-requires cast-number mul-result add-result mul-result-2 add-result-2 same-length returns)

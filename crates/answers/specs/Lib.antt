@@ -1,0 +1,2 @@
+-- What a call on a word answers.
+pub mod WordAnswers
