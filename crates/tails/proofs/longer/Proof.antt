@@ -1,4 +1,4 @@
--- `sheets::nodes::longer` meets its contract: where the letters before the last `least` differ, or one ending has no more,
+-- `tails::longer` meets its contract: where the letters before the last `least` differ, or one ending has no more,
 -- no longer tail is shared.
 use Prim.Native.Nat.{ℕ, max}
 use mathlib.Core.Path.{_≡_}
@@ -8,8 +8,8 @@ use borrow.Author.Needs.{needs}
 use Rattle.paper.specs.Nodes.{tails}
 use Rattle.paper.specs.LookBack.{shared}
 use Rattle.paper.specs.SharedTails.{Stop, shared-below}
-use Rattle.sheets.proofs.nodes.longer.Statement.{statement}
-use Rattle.sheets.proofs.nodes.longer.Tie as tie
+use Rattle.tails.proofs.longer.Statement.{statement}
+use Rattle.tails.proofs.longer.Tie as tie
 
 no-longer : (one other : List ℕ) (least : ℕ) → Stop one other least → least ≡ max least (shared one (tails other))
 no-longer one other least stop = omega (arith, shared-below one other least stop)

@@ -1,4 +1,4 @@
--- `sheets::nodes::shared_tail` meets its contract. The loop's invariant: the last `k` letters are equal. The measure is what
+-- `tails::shared_tail` meets its contract. The loop's invariant: the last `k` letters are equal. The measure is what
 -- is left of the first ending.
 use Prim.Native.Nat.{ℕ, suc, _+_, _-_, _≤_, _<_}
 use mathlib.Core.Path.{_≡_, sym, ap, _∙_}
@@ -9,8 +9,8 @@ use lib.Seq.{drop-cons, drop-length}
 use Rattle.paper.specs.Nodes.{tails}
 use Rattle.paper.specs.LookBack.{shared}
 use Rattle.paper.specs.SharedTails.{Equal, Stop, shared-is}
-use Rattle.sheets.proofs.nodes.shared_tail.Statement.{statement}
-use Rattle.sheets.proofs.nodes.shared_tail.Tie as tie
+use Rattle.tails.proofs.shared_tail.Statement.{statement}
+use Rattle.tails.proofs.shared_tail.Tie as tie
 
 -- one more letter from the end on
 one-more : (l : List ℕ) (k : ℕ) → k < length l → drop (length l - (k + 1)) l ≡ getD l (length l - 1 - k) 0 ∷ drop (length l - k) l

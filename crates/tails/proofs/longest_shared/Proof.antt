@@ -1,4 +1,4 @@
--- `sheets::nodes::longest_shared` meets its contract. The loop's invariant: the longest tail shared with all the rules is
+-- `tails::longest_shared` meets its contract. The loop's invariant: the longest tail shared with all the rules is
 -- the longer of the longest so far and of the longest shared with those that are left, which stand from `place` on.
 use Prim.Native.Nat.{ℕ, zero, suc, _-_, _≤_, _<_, max}
 use mathlib.Core.Path.{_≡_, refl, sym, ap, _∙_}
@@ -13,9 +13,9 @@ use Rattle.records.specs.declared.framing.Frame.the-variants.{Whole, Cut}
 use Rattle.records.specs.Framing.{body, after, cut}
 use Rattle.records.specs.FramingLaws.{FramedAt, framed, beyond}
 use Rattle.records.specs.Records.{ending}
-use Rattle.sheets.specs.Earlier.{tailsIn}
-use Rattle.sheets.proofs.nodes.longest_shared.Statement.{statement}
-use Rattle.sheets.proofs.nodes.longest_shared.Tie as tie
+use Rattle.tails.specs.Earlier.{tailsIn}
+use Rattle.tails.proofs.longest_shared.Statement.{statement}
+use Rattle.tails.proofs.longest_shared.Tie as tie
 
 nothing-shared : (e : List ℕ) → shared e [] ≡ 0
 unfolding shared member

@@ -1,13 +1,13 @@
--- `numbers::same_numbers` meets its contract. The loop's invariant: what is left decides.
+-- `paths::same_numbers` meets its contract. The loop's invariant: what is left decides.
 use Prim.Native.Nat.{_≤_, _-_}
 use mathlib.Core.Path.{_≡_, refl, sym, _∙_}
 use native.Mathlib.Omega.{arith}
 use lib.ListN.{length, drop}
 use Rattle.paper.specs.Groups.{same}
-use Rattle.numbers.specs.SameNumbers.{same-next, same-apart, same-over}
+use Rattle.paths.specs.SameNumbers.{same-next, same-apart, same-over}
 use Rattle.paper.specs.GroupsLaws.{same-long}
-use Rattle.numbers.proofs.same_numbers.Statement.{statement}
-use Rattle.numbers.proofs.same_numbers.Tie as tie
+use Rattle.paths.proofs.same_numbers.Statement.{statement}
+use Rattle.paths.proofs.same_numbers.Tie as tie
 
 abbrev Inv-loop : tie.InvT-loop
 Inv-loop one other i₀ i = (same one other ≡ same (drop i one) (drop i other)) × (i ≤ length one) × (length one ≡ length other)

@@ -1,22 +1,16 @@
--- The endings of the rules of a group that were read before, found again in the sheet's bytes.
-use Prim.Native.Nat.{ℕ, zero, suc}
+-- The bytes of the rules of a group that were read before: the tails of their endings, and one rule more.
+use Prim.Native.Nat.{ℕ}
 use mathlib.Core.Path.{_≡_, refl, ap}
-use mathlib.Core.Bool.{cond}
 use mathlib.Core.List.{List, [], _∷_, _++_, append-assoc}
 use lib.ListN.{length}
 use Rattle.paper.specs.Groups.{Rule}
-use Rattle.paper.specs.Nodes.{tails, tailsOf}
-use Rattle.records.specs.Framing.{body, after, cut, recordOf}
+use Rattle.paper.specs.Nodes.{tailsOf}
+use Rattle.records.specs.Framing.{recordOf}
 use Rattle.records.specs.FramingLaws.{body-read, after-read, whole-read}
-use Rattle.records.specs.Records.{ending}
 use Rattle.records.specs.RecordBytes.{ruleBody}
 use Rattle.records.specs.WrittenRules.{ending-read}
+use Rattle.tails.specs.Earlier.{tailsIn}
 use Rattle.sheets.specs.SheetBytes.{rulesBytes}
-
--- the tails of the endings of so many rules, which stand one after the other
-unfoldable pub tailsIn : ℕ → List ℕ → List (List ℕ)
-tailsIn zero bytes = []
-tailsIn (suc count) bytes = cond (cut bytes) [] (tails (ending (body bytes)) ++ tailsIn count (after bytes))
 
 pub tails-in : (rules : List Rule) (more : List ℕ) → tailsIn (length rules) (rulesBytes rules ++ more) ≡ tailsOf rules
 unfolding tailsIn tailsOf rulesBytes

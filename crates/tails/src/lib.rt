@@ -5,7 +5,7 @@ ghost use Prim.Native.Nat.{max};
 ghost use lib.ListN.{drop};
 ghost use Rattle.paper.specs.Nodes.{tails};
 ghost use Rattle.paper.specs.LookBack.{shared};
-ghost use Rattle.sheets.specs.Earlier.{tailsIn};
+ghost use Rattle.tails.specs.Earlier.{tailsIn};
 use records::framing::Frame;
 use records::framing::frame_at;
 use records::rules::ending_in;
@@ -49,7 +49,7 @@ fn longer(one: &[u8], other: &[u8], least: usize) -> usize
 }
 
 // How long the longest tail is that an ending shares with those of the `count` rules that stand from `first` on.
-pub(crate) fn longest_shared(sheet: &[u8], first: usize, count: usize, ending: &[u8]) -> usize
+pub fn longest_shared(sheet: &[u8], first: usize, count: usize, ending: &[u8]) -> usize
     ensures { λ r. ⌜ r ≡ shared (now (ending .entry)) (tailsIn count (drop first (now (sheet .entry)))) ⌝ }
 {
     let mut place = first;
