@@ -1,2 +1,3 @@
--- What a call on a word answers.
-pub mod WordAnswers
+-- What each call answers, and that its numbers tell it.
+pub mod Answers
+pub mod AnswerLaws

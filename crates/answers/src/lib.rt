@@ -1,7 +1,8 @@
-// A call on a word: what it answers, what is said of a word before it is read, and the numbers returned.
+// What each call answers, with document 01's numbers for it; and what is said of a word before it is read.
 ghost use mathlib.Core.Path.{_≡_};
 ghost use Rattle.paper.specs.Words.{judged};
-ghost use Rattle.answers.specs.WordAnswers.{numberOf, valueOf, judgementOf};
+ghost use Rattle.answers.specs.Answers.{numberOf, valueOf, numberOfText, stemmedOf, leftOf};
+ghost use Rattle.answers.specs.Answers.{tells, numberOfTranslated, valueOfTranslated, numberOfRan, valueOfRan, judgementOf};
 
 // What a call on a word answers.
 pub enum Answer {
@@ -13,6 +14,42 @@ pub enum Answer {
     OtherByte,
     // 4: some group's result is longer than the word's place. The shipped rules never give it.
     Outgrown,
+}
+
+// What the text run answers.
+pub enum TextRun {
+    // 0: every word was rewritten or left: how many of each.
+    Done { stemmed: usize, left: usize },
+    // 5: the text has more than 65,536 bytes.
+    TooLong,
+}
+
+// What a check of a sheet answers.
+pub enum Checked {
+    // 0: the nodes that the sheet's table needs; and how many groups it has, for who goes on with it.
+    Accepted { nodes: usize, groups: usize },
+    // 3: the place where the first faulty record starts.
+    Refused(usize),
+}
+
+// What a translation answers.
+pub enum Translated {
+    // 0: the nodes that it laid out.
+    Nodes(usize),
+    // 3: the place of the sheet's first faulty record.
+    Refused(usize),
+    // 6: the lent table is too short.
+    Short,
+}
+
+// What a run of a table on a word answers.
+pub enum Ran {
+    // 0, 1, 2, 4: what the call on the word answers.
+    Word(Answer),
+    // 3: the place of the sheet's first faulty record.
+    Refused(usize),
+    // 7: the table is not the sheet's.
+    Table,
 }
 
 // What is said of a word before it is read.
@@ -37,13 +74,20 @@ pub fn judge(word: &[u8]) -> Judged
     Judged::Taken
 }
 
-// What is returned to a caller in numbers: document 01's number, and the value besides it.
+// An answer in numbers: document 01's number, and the value returned besides it.
 pub struct Reply {
     pub number: u8,
     pub value: usize,
 }
 
-pub fn told(answer: Answer) -> Reply
+// That of a text: the number, and the two counts.
+pub struct TextReply {
+    pub number: u8,
+    pub stemmed: usize,
+    pub left: usize,
+}
+
+pub fn of_word(answer: Answer) -> Reply
     ensures { λ r. ⌜ r .number ≡ numberOf answer ⌝ }
     ensures { λ r. ⌜ r .value ≡ valueOf answer ⌝ }
 {
@@ -62,6 +106,78 @@ pub fn told(answer: Answer) -> Reply
         },
         Answer::Outgrown => Reply {
             number: 4,
+            value: 0,
+        },
+    }
+}
+
+pub fn of_text(answer: TextRun) -> TextReply
+    ensures { λ r. ⌜ r .number ≡ numberOfText answer ⌝ }
+    ensures { λ r. ⌜ r .stemmed ≡ stemmedOf answer ⌝ }
+    ensures { λ r. ⌜ r .left ≡ leftOf answer ⌝ }
+{
+    match answer {
+        TextRun::Done { stemmed, left } => TextReply {
+            number: 0,
+            stemmed,
+            left,
+        },
+        TextRun::TooLong => TextReply {
+            number: 5,
+            stemmed: 0,
+            left: 0,
+        },
+    }
+}
+
+pub fn of_check(answer: Checked) -> Reply
+    ensures { λ r. ⌜ r .number ≡ tells answer .number ⌝ }
+    ensures { λ r. ⌜ r .value ≡ tells answer .value ⌝ }
+{
+    match answer {
+        Checked::Accepted { nodes, groups: _ } => Reply {
+            number: 0,
+            value: nodes,
+        },
+        Checked::Refused(place) => Reply {
+            number: 3,
+            value: place,
+        },
+    }
+}
+
+pub fn of_translation(answer: Translated) -> Reply
+    ensures { λ r. ⌜ r .number ≡ numberOfTranslated answer ⌝ }
+    ensures { λ r. ⌜ r .value ≡ valueOfTranslated answer ⌝ }
+{
+    match answer {
+        Translated::Nodes(count) => Reply {
+            number: 0,
+            value: count,
+        },
+        Translated::Refused(place) => Reply {
+            number: 3,
+            value: place,
+        },
+        Translated::Short => Reply {
+            number: 6,
+            value: 0,
+        },
+    }
+}
+
+pub fn of_run(answer: Ran) -> Reply
+    ensures { λ r. ⌜ r .number ≡ numberOfRan answer ⌝ }
+    ensures { λ r. ⌜ r .value ≡ valueOfRan answer ⌝ }
+{
+    match answer {
+        Ran::Word(word) => of_word(word),
+        Ran::Refused(place) => Reply {
+            number: 3,
+            value: place,
+        },
+        Ran::Table => Reply {
+            number: 7,
             value: 0,
         },
     }

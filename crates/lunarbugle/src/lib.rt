@@ -10,7 +10,7 @@ pub extern "C" fn lunarbugle_stem(word: &mut [u8]) -> u64
     ensures { λ r. ⌜ r ≡ packed (outcome (now (word .entry))) ⌝ }
     ensures { λ _. ⌜ now (word .exit) ≡ outcome (now (word .entry)) .place ⌝ }
 {
-    let reply = answers::told(words::stem(word));
+    let reply = answers::of_word(words::stem(word));
     let number = reply.number as u64;
     let value = reply.value as u64;
     number + 256 * value
@@ -22,7 +22,7 @@ pub extern "C" fn lunarbugle_text(text: &mut [u8]) -> u64
     ensures { λ r. ⌜ r ≡ packedText (textOutcome stem (now (text .entry))) ⌝ }
     ensures { λ _. ⌜ now (text .exit) ≡ textOutcome stem (now (text .entry)) .text ⌝ }
 {
-    let reply = texts::told(texts::run(text));
+    let reply = answers::of_text(texts::run(text));
     let number = reply.number as u64;
     let stemmed = reply.stemmed as u64;
     let left = reply.left as u64;

@@ -6,9 +6,10 @@ pub mod Shipped
 pub mod Words
 pub mod Numbered
 pub mod Nodes
--- Then 01's samples, and demand 2 for words.
+-- Then 01's samples, demand 2 for words, and when each number is answered.
 pub mod WordSamples
 pub mod Demand2
+pub mod Answered
 pub mod Settled
 -- Laws of tests and lists
 pub mod TestLaws

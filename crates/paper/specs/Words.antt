@@ -16,9 +16,12 @@ readWord groups word = through (length word) (map readTurn groups) false word
 unfoldable pub stem : List ℕ → Reading
 stem word = readWord shipped word
 
+abbrev pub spaces : ℕ → List ℕ
+spaces n = replicate n 32
+
 -- "the stem stands first and spaces fill the rest"
 unfoldable pub placed : List ℕ → List ℕ → List ℕ
-placed word stem = stem ++ replicate (length word - length stem) 32
+placed word stem = stem ++ spaces (length word - length stem)
 
 -- "The word has 0 or more than 64 bytes"
 unfoldable pub wrongLength : List ℕ → Bool

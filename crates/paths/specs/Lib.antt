@@ -3,3 +3,5 @@ pub mod Children
 -- Laws of a chain, one node after another, and of nodes that a table does not have
 pub mod ChildLaws
 pub mod BeyondLaws
+-- Two tables of the same numbers
+pub mod SameNumbers

@@ -1,8 +1,9 @@
-// The nodes of a table, and the paths that a word's and an ending's letters take through them. Any numbers may be given: where the
-// table has no number, 0 is read, and a node that it does not have holds no rule and has no child.
+// The numbers of a table, its nodes, and the paths that a word's and an ending's letters take through them. Any numbers may be given:
+// where the table has no number, 0 is read, and a node that it does not have holds no rule and has no child.
 ghost use mathlib.Core.Path.{_≡_};
 ghost use Prim.Native.Nat.{_<_};
 ghost use lib.ListN.{getD};
+ghost use Rattle.paper.specs.Groups.{same};
 ghost use Rattle.paper.specs.Letters.{inward};
 ghost use Rattle.walks.specs.Walk.{deepest as deepestOf, reached, held};
 ghost use Rattle.paths.specs.Children.{child as childOf, nodesIn};
@@ -82,4 +83,21 @@ pub fn held_at(table: &[u16], root: usize, ending: &[u8]) -> usize
         }
     }
     number_at(table, 4 * at + 3)
+}
+
+// Whether two tables have the same numbers.
+pub fn same_numbers(one: &[u16], other: &[u16]) -> bool
+    ensures { λ r. ⌜ r ≡ same (now (one .entry)) (now (other .entry)) ⌝ }
+{
+    if one.len() != other.len() {
+        return false;
+    }
+    let mut i = 0;
+    while i < one.len() {
+        if one[i] != other[i] {
+            return false;
+        }
+        i += 1;
+    }
+    true
 }

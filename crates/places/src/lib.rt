@@ -2,7 +2,8 @@
 ghost use mathlib.Core.Path.{_≡_};
 ghost use mathlib.Core.List.{_++_};
 ghost use Prim.Native.Nat.{_-_};
-ghost use lib.ListN.{length, take, replicate};
+ghost use lib.ListN.{length, take};
+ghost use Rattle.paper.specs.Words.{spaces};
 ghost use Rattle.places.specs.Put.{putAt};
 
 // Writes letters at a place of the word's place, if they fit there. Where a letter stands already, nothing is written: most
@@ -27,7 +28,7 @@ pub fn put(place: &mut [u8], at: usize, letters: &[u8])
 
 // "the stem stands first and spaces fill the rest"
 pub fn fill(place: &mut [u8], stem: usize)
-    ensures { λ _. ⌜ now (place .exit) ≡ take stem (now (place .entry)) ++ replicate (length (now (place .entry)) - stem) 32 ⌝ }
+    ensures { λ _. ⌜ now (place .exit) ≡ take stem (now (place .entry)) ++ spaces (length (now (place .entry)) - stem) ⌝ }
 {
     if place.len() <= stem {
         return;

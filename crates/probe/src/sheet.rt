@@ -10,7 +10,7 @@ pub fn answered() -> bool {
         return false;
     }
     let length = sheet.length;
-    let reply = sheets::told(sheets::check(&space[..length]));
+    let reply = answers::of_check(sheets::check(&space[..length]));
     output::reply(reply.number, reply.value);
     true
 }

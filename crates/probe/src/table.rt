@@ -22,7 +22,7 @@ pub fn answered_translation() -> bool {
 }
 
 fn answer_translation(sheet: &[u8], table: &mut [u16]) {
-    let reply = siblings::told(siblings::translate(sheet, table));
+    let reply = answers::of_translation(siblings::translate(sheet, table));
     output::reply(reply.number, reply.value);
     output::table(table);
 }
@@ -56,7 +56,7 @@ pub fn answered_run() -> bool {
 }
 
 fn answer_run(sheet: &[u8], table: &[u16], word: &mut [u8]) {
-    let reply = tables::told(tables::run(sheet, table, word));
+    let reply = answers::of_run(tables::run(sheet, table, word));
     output::reply(reply.number, reply.value);
     output::bytes(word);
 }

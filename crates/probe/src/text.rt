@@ -16,7 +16,7 @@ pub fn answered_run() -> bool {
 }
 
 fn answer_run(text: &mut [u8]) {
-    let reply = texts::told(texts::run(text));
+    let reply = answers::of_text(texts::run(text));
     output::reply(reply.number, reply.stemmed);
     output::number(reply.left);
     output::bytes(text);

@@ -15,7 +15,7 @@ pub fn answered() -> bool {
 }
 
 fn answer(word: &mut [u8]) {
-    let reply = answers::told(words::stem(word));
+    let reply = answers::of_word(words::stem(word));
     output::reply(reply.number, reply.value);
     output::bytes(word);
 }

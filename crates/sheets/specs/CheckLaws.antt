@@ -1,6 +1,6 @@
 -- What the check of a sheet adds to the way through it: the nodes, and where the rules of the group so far stand.
 use Prim.Native.Nat.{ℕ, _+_, _-_, _≤_}
-use mathlib.Core.Path.{_≡_, refl, sym, ap, _∙_}
+use mathlib.Core.Path.{_≡_, refl, sym, ap, ap₂, _∙_}
 use mathlib.Core.Bool.{true, false}
 use mathlib.Core.List.{List, [], _∷_, _++_}
 use native.Mathlib.Omega.{arith}
@@ -20,22 +20,22 @@ use Rattle.sheets.specs.Sheets.{Sheet, refused, accepted, readSheet}
 use Rattle.sheets.specs.SheetBytes.{rulesBytes}
 use Rattle.sheets.specs.SheetSteps.{group-fault, rule-fault}
 use Rattle.sheets.specs.SheetPlaces.{startOf, rest-start, rest-fault, rest-group, rest-rule, rest-end}
-use Rattle.sheets.specs.CheckAnswers.{answer, checked}
-use Rattle.sheets.specs.Earlier.{tailsIn, tails-in, one-more}
-use Rattle.sheets.specs.declared.Checked.{Checked}
-use Rattle.sheets.specs.declared.Checked.the-variants.{Accepted, Refused}
+use Rattle.answers.specs.Answers.{Check, counting, faultyAt}
+use Rattle.sheets.specs.Checks.{checkOf, checked}
+use Rattle.tails.specs.Earlier.{tailsIn}
+use Rattle.sheets.specs.EarlierRules.{tails-in, one-more}
 
 -- ## The answer, from the rest of a sheet
 -- so many nodes and groups are counted, and these rules of the group came before
-abbrev pub finished : ℕ → ℕ → List Rule → Rest → Checked
-finished nodes groups earlier (faulty-at place) = Refused place
+abbrev pub finished : ℕ → ℕ → List Rule → Rest → Check
+finished nodes groups earlier (faulty-at place) = faultyAt place
 finished nodes groups earlier (holding rules more) =
-    Accepted (nodes + (distinct (tailsOf earlier) (tailsOf rules) + nodeCount more)) (groups + length more)
+    counting (nodes + (distinct (tailsOf earlier) (tailsOf rules) + nodeCount more)) (groups + length more)
 
-both : {n m g h : ℕ} → n ≡ m → g ≡ h → Accepted n g ≡ Accepted m h
-both a b = cc
+both : {n m g h : ℕ} → n ≡ m → g ≡ h → counting n g ≡ counting m h
+both a b = ap₂ counting a b
 
-at-start : (found : Sheet) → answer found ≡ finished 0 0 [] (startOf found)
+at-start : (found : Sheet) → checkOf found ≡ finished 0 0 [] (startOf found)
 unfolding tailsOf distinct
 at-start (refused place) = refl
 at-start (accepted groups) = both (omega arith) (omega arith)
@@ -81,19 +81,19 @@ module _ {sheet : List ℕ} {at groups rules nodes first count : ℕ} (state : S
   decided : {found : Rest} → restAt sheet at groups rules ≡ found → checked sheet ≡ finished nodes groups (state .earlier) found
   decided is = state .decides ∙ ap (finished nodes groups (state .earlier)) is
 
-  pub faulty-record : faulty groups rules rest ≡ true → Refused at ≡ checked sheet
+  pub faulty-record : faulty groups rules rest ≡ true → faultyAt at ≡ checked sheet
   faulty-record is = sym (decided (rest-fault sheet at groups rules is))
 
   -- a record that is not faulty by itself, out of its place
   pub group-refused : {number next : ℕ} → GroupAt sheet at number next → misplacedGroup groups (body rest) ≡ true
-      → Refused at ≡ checked sheet
+      → faultyAt at ≡ checked sheet
   group-refused here is = faulty-record (group-fault groups rules (here .here) ∙ is)
 
   pub rule-refused : {c a o start middle next : ℕ} → RuleAt sheet at c a o start middle next → misplacedRule groups rules ≡ true
-      → Refused at ≡ checked sheet
+      → faultyAt at ≡ checked sheet
   rule-refused here is = faulty-record (rule-fault groups rules (here .here) ∙ is)
 
-  pub last-record : EndHere rest → Accepted nodes groups ≡ checked sheet
+  pub last-record : EndHere rest → counting nodes groups ≡ checked sheet
   unfolding distinct tailsOf nodeCount
   last-record here = both (omega arith) (omega arith) ∙ sym (decided (rest-end sheet at groups rules here))
 

@@ -8,7 +8,7 @@ use mathlib.Core.List.{List}
 use native.Mathlib.Omega.{arith}
 use Rattle.paper.specs.Groups.{Group}
 use Rattle.sheets.specs.Sheets.{Sheet, refused, accepted, readSheet}
-use Rattle.sheets.specs.CheckAnswers.{numberOf, answer, checked}
+use Rattle.sheets.specs.Checks.{checkOf, checked}
 use Rattle.sheets.specs.SheetBytes.{sheetOf, bounded}
 use Rattle.paper.specs.Nodes.{nodeCount}
 use Rattle.sheets.specs.NodeBounds.{at-most-1552}
@@ -23,16 +23,16 @@ accepted-exactly sheet groups =
 
 -- a check answers 0 exactly for the bytes of a bounded list of groups, and 3 for all others
 pub zero-exactly : (sheet : List ℕ)
-    → (numberOf (checked sheet) ≡ 0) ↔ ((groups : List Group) × (sheet ≡ sheetOf groups) × (bounded groups ≡ true))
+    → (checked sheet .number ≡ 0) ↔ ((groups : List Group) × (sheet ≡ sheetOf groups) × (bounded groups ≡ true))
 unfolding checked
 zero-exactly sheet = (λ is. by (readSheet sheet) refl is, back)
   where
-    by : (found : Sheet) → readSheet sheet ≡ found → numberOf (answer found) ≡ 0
+    by : (found : Sheet) → readSheet sheet ≡ found → checkOf found .number ≡ 0
         → (groups : List Group) × (sheet ≡ sheetOf groups) × (bounded groups ≡ true)
     by (refused place) read is = absurd (omega arith)
     by (accepted groups) read is = let both = write-back sheet groups read in (groups, both .0, both .1)
 
-    back : (groups : List Group) × (sheet ≡ sheetOf groups) × (bounded groups ≡ true) → numberOf (answer (readSheet sheet)) ≡ 0
+    back : (groups : List Group) × (sheet ≡ sheetOf groups) × (bounded groups ≡ true) → checkOf (readSheet sheet) .number ≡ 0
     back all = rw (all .1, read-back (all .0) (all .2)) refl
 
 -- one list, one sheet

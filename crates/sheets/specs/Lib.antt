@@ -1,10 +1,11 @@
 -- Document 01, "The sheet". First the definitions: reading a whole sheet, what a check answers, and accepted sheets.
 pub mod Sheets
-pub mod CheckAnswers
+pub mod Checks
 pub mod Accepted
 -- Then the same from the other side, the bytes of a list of groups, and that the two correspond; 01's samples.
 pub mod SheetBytes
 pub mod Correspondence
+pub mod FirstFaulty
 pub mod ShippedSheet
 pub mod SheetSamples
 -- Laws of reading record by record, of reading back what was written, and of writing what was read
@@ -14,5 +15,5 @@ pub mod WriteBack
 pub mod NodeBounds
 -- The way through a sheet; what the check adds to it, and looking back for the node count
 pub mod SheetPlaces
-pub mod Earlier
+pub mod EarlierRules
 pub mod CheckLaws

@@ -14,9 +14,8 @@ use Rattle.records.specs.RecordBytes.{gateBody, ruleBody}
 use Rattle.sheets.specs.Sheets.{misplacedGroup, misplacedRule, misplaced, faulty, readRest, readSheet}
 use Rattle.sheets.specs.SheetBytes.{rulesBytes, groupsBytes, sheetOf}
 use Rattle.paper.specs.Nodes.{tails, tailsOf, member, distinct, nodeCount}
-use Rattle.sheets.specs.CheckAnswers.{checked}
-use Rattle.sheets.specs.declared.Checked.{Checked}
-use Rattle.sheets.specs.declared.Checked.the-variants.{Accepted, Refused}
+use Rattle.answers.specs.Answers.{Check, counting, faultyAt}
+use Rattle.sheets.specs.Checks.{checked}
 
 -- "Sheet G(gate 0), s→, end is .., 19 bytes"
 unfoldable pub nineteen : List ℕ
@@ -32,26 +31,26 @@ nineteen-is = refl
 
 -- a sheet and what a check answers: "The 19-byte sheet needs a table of 8 numbers"; "An empty sheet is refused at 0. A sheet
 -- of one end record is accepted"; bytes after the end; a cut record; a first group that waits to be opened
-unfoldable pub samples : List (List ℕ × Checked)
+unfoldable pub samples : List (List ℕ × Check)
 samples =
-    (nineteen, Accepted 2 1)
-    ∷ ([], Refused 0)
-    ∷ (0 ∷ 0 ∷ 3 ∷ 0 ∷ [], Accepted 0 0)
-    ∷ (0 ∷ 0 ∷ 3 ∷ 0 ∷ 0 ∷ [], Refused 0)
-    ∷ (2 ∷ 0 ∷ 1 ∷ 0 ∷ 0 ∷ 0 ∷ 5 ∷ 0 ∷ 2 ∷ 0 ∷ 0 ∷ 0 ∷ 0 ∷ 1 ∷ [], Refused 6)
-    ∷ (2 ∷ 0 ∷ 1 ∷ 0 ∷ 1 ∷ 0 ∷ 0 ∷ 0 ∷ 3 ∷ 0 ∷ [], Refused 0)
+    (nineteen, counting 2 1)
+    ∷ ([], faultyAt 0)
+    ∷ (0 ∷ 0 ∷ 3 ∷ 0 ∷ [], counting 0 0)
+    ∷ (0 ∷ 0 ∷ 3 ∷ 0 ∷ 0 ∷ [], faultyAt 0)
+    ∷ (2 ∷ 0 ∷ 1 ∷ 0 ∷ 0 ∷ 0 ∷ 5 ∷ 0 ∷ 2 ∷ 0 ∷ 0 ∷ 0 ∷ 0 ∷ 1 ∷ [], faultyAt 6)
+    ∷ (2 ∷ 0 ∷ 1 ∷ 0 ∷ 1 ∷ 0 ∷ 0 ∷ 0 ∷ 3 ∷ 0 ∷ [], faultyAt 0)
     ∷ []
 
 -- lists of groups, and what a check of their bytes answers: "An S1 of 12 letters, a 16th group and a 128th rule are
 -- accepted; 13 letters, a 17th and a 129th are refused at their record."
-unfoldable pub bounds : List (List Group × Checked)
+unfoldable pub bounds : List (List Group × Check)
 bounds =
-    (group (rules.rule 0 "abcdefghijkl" "" ∷ []) ∷ [], Accepted 13 1)
-    ∷ (group (rules.rule 0 "abcdefghijklm" "" ∷ []) ∷ [], Refused 6)
-    ∷ (replicate 16 (group []), Accepted 16 16)
-    ∷ (replicate 17 (group []), Refused 96)
-    ∷ (group (replicate 128 (rules.rule 0 "s" "")) ∷ [], Accepted 2 1)
-    ∷ (group (replicate 129 (rules.rule 0 "s" "")) ∷ [], Refused 1158)
+    (group (rules.rule 0 "abcdefghijkl" "" ∷ []) ∷ [], counting 13 1)
+    ∷ (group (rules.rule 0 "abcdefghijklm" "" ∷ []) ∷ [], faultyAt 6)
+    ∷ (replicate 16 (group []), counting 16 16)
+    ∷ (replicate 17 (group []), faultyAt 96)
+    ∷ (group (replicate 128 (rules.rule 0 "s" "")) ∷ [], counting 2 1)
+    ∷ (group (replicate 129 (rules.rule 0 "s" "")) ∷ [], faultyAt 1158)
     ∷ []
 
 pub samples-hold : map (λ s. checked (s .0)) samples ≡ map (λ s. s .1) samples

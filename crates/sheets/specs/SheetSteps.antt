@@ -34,7 +34,7 @@ module _ (groups rules : ℕ) {rest : List ℕ} where
   unfolding faulty faultyAlone misplaced
   rule-fault here = rw (here .whole, at-rule _ _ _ _ true (here .is-rule), here .sound, at-rule _ _ _ _ false (here .is-rule))
 
-  end-fault : EndHere rest → faulty groups rules rest ≡ false
+  pub end-fault : EndHere rest → faulty groups rules rest ≡ false
   unfolding faulty faultyAlone misplaced
   end-fault here = rw (here .whole, at-end _ _ _ _ true (here .is-end), here .sound, at-end _ _ _ _ false (here .is-end))
 

@@ -11,9 +11,9 @@ use Rattle.records.specs.RecordBytes.{gateBody, ruleBody, atMost12, allowedActi
 use Rattle.sheets.specs.SheetBytes.{rulesBytes, groupsBytes, sheetOf, allAllowed, groupsAllowed, ruleCount, bounded}
 use Rattle.sheets.specs.Sheets.{accepted, readSheet}
 use Rattle.paper.specs.Nodes.{tails, tailsOf, member, distinct, nodeCount}
-use Rattle.sheets.specs.CheckAnswers.{answer, checked}
+use Rattle.answers.specs.Answers.{counting}
+use Rattle.sheets.specs.Checks.{checkOf, checked}
 use Rattle.sheets.specs.ReadBack.{read-back}
-use Rattle.sheets.specs.declared.Checked.the-variants.{Accepted}
 
 pub size : length (sheetOf shipped) ≡ 861
 unfolding shipped two recordOf gateBody ruleBody rulesBytes groupsBytes sheetOf
@@ -30,6 +30,6 @@ nodes = refl
 pub reads : readSheet (sheetOf shipped) ≡ accepted shipped
 reads = read-back shipped within-bounds
 
-pub accepts : checked (sheetOf shipped) ≡ Accepted 162 9
+pub accepts : checked (sheetOf shipped) ≡ counting 162 9
 unfolding checked shipped
-accepts = ap answer reads ∙ ap (λ (count : ℕ). Accepted count 9) nodes
+accepts = ap checkOf reads ∙ ap (λ (count : ℕ). counting count 9) nodes

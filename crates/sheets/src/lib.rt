@@ -2,21 +2,12 @@
 ghost use mathlib.Core.Path.{_≡_};
 ghost use mathlib.Core.Bool.{_&&_, _||_};
 ghost use lib.Dec.{eqb, leb};
-ghost use Rattle.sheets.specs.CheckAnswers.{numberOf, valueOf, checked};
-
-mod nodes;
-
-use answers::Reply;
-use nodes::longest_shared;
+ghost use Rattle.answers.specs.Answers.{tells};
+ghost use Rattle.sheets.specs.Checks.{checked};
+use answers::Checked;
 use records::Record;
 use records::reader::draw;
-
-// What a check answers: the nodes that the sheet's table needs, and how many groups it has; or the place where its first faulty
-// record starts.
-pub enum Checked {
-    Accepted { nodes: usize, groups: usize },
-    Refused(usize),
-}
+use tails::longest_shared;
 
 // A group is the first and runs only if opened, or is the 17th.
 fn misplaced_group(groups: usize, gate: usize) -> bool
@@ -35,7 +26,7 @@ fn misplaced_rule(groups: usize, rules: usize) -> bool
 // The check of a whole sheet: so many groups, rules and nodes stand before `at`. Of the group that is read, `count` rules
 // stand from `first` on.
 pub fn check(sheet: &[u8]) -> Checked
-    ensures { λ r. ⌜ r ≡ checked (now (sheet .entry)) ⌝ }
+    ensures { λ r. ⌜ tells r ≡ checked (now (sheet .entry)) ⌝ }
 {
     let mut at = 0;
     let mut groups = 0;
@@ -78,21 +69,4 @@ pub fn check(sheet: &[u8]) -> Checked
         }
     }
     Checked::Refused(at)
-}
-
-// Document 01's number for an answer, and what is returned besides it.
-pub fn told(answer: Checked) -> Reply
-    ensures { λ r. ⌜ r .number ≡ numberOf answer ⌝ }
-    ensures { λ r. ⌜ r .value ≡ valueOf answer ⌝ }
-{
-    match answer {
-        Checked::Accepted { nodes, groups: _ } => Reply {
-            number: 0,
-            value: nodes,
-        },
-        Checked::Refused(place) => Reply {
-            number: 3,
-            value: place,
-        },
-    }
 }

@@ -4,6 +4,7 @@ pub mod Translations
 -- Then 01's samples, and that the layout is faithful to its groups.
 pub mod TableSamples
 pub mod TranslationFaithful
+pub mod AnsweredTranslation
 -- Laws of the layout: nodes, chains, paths, and how many nodes there are
 pub mod KinLaws
 pub mod PresentLaws

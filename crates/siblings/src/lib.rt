@@ -1,27 +1,21 @@
 // The layout of document 01: the nodes of a table with their chains of siblings, and the translation from a sheet to such a
 // table.
 ghost use mathlib.Core.Path.{_≡_};
-ghost use Rattle.siblings.specs.Translations.{numberOfTranslated, valueOfTranslated, translation};
+ghost use Rattle.paper.specs.Words.{Gives};
+ghost use Rattle.answers.specs.Answers.{numberOfTranslated, valueOfTranslated};
+ghost use Rattle.siblings.specs.Translations.{translation};
 
 mod laying_out;
 mod layings;
 
-use answers::Reply;
+use answers::Checked;
+use answers::Translated;
 use laying_out::lay;
-use sheets::Checked;
-
-// What a translation answers: the nodes that it laid out, the place of the sheet's first faulty record, or that the lent table
-// is too short.
-pub enum Translated {
-    Nodes(usize),
-    Refused(usize),
-    Short,
-}
 
 // Translates a sheet to a table.
 pub fn translate(sheet: &[u8], table: &mut [u16]) -> Translated
-    ensures { λ r. ⌜ (r ≡ translation (now (sheet .entry)) (now (table .entry)) .answer)
-        × (now (table .exit) ≡ translation (now (sheet .entry)) (now (table .entry)) .table) ⌝ }
+    ensures { λ r. ⌜ Gives (translation (now (sheet .entry)) (now (table .entry)))
+        (numberOfTranslated r) (valueOfTranslated r) (now (table .exit)) ⌝ }
 {
     let found = sheets::check(sheet);
     match found {
@@ -36,26 +30,5 @@ pub fn translate(sheet: &[u8], table: &mut [u16]) -> Translated
             }
             Translated::Nodes(nodes)
         }
-    }
-}
-
-// Document 01's number for an answer, and what is returned besides it.
-pub fn told(answer: Translated) -> Reply
-    ensures { λ r. ⌜ r .number ≡ numberOfTranslated answer ⌝ }
-    ensures { λ r. ⌜ r .value ≡ valueOfTranslated answer ⌝ }
-{
-    match answer {
-        Translated::Nodes(count) => Reply {
-            number: 0,
-            value: count,
-        },
-        Translated::Refused(place) => Reply {
-            number: 3,
-            value: place,
-        },
-        Translated::Short => Reply {
-            number: 6,
-            value: 0,
-        },
     }
 }

@@ -1,9 +1,9 @@
 // The program: it reads standard input to its end and writes the text after the run, or the line `refused 5` if more than
 // 65,536 bytes came. What could not be read or written is said on standard error, and then nothing claims success.
+use answers::TextRun;
 use libc::STDERR_FILENO;
 use libc::STDIN_FILENO;
 use libc::STDOUT_FILENO;
-use texts::TextRun;
 ghost use Prim.Native.Nat.{_≤_};
 ghost use lib.ListN.{length};
 ghost use Rattle.stem.specs.Input.{came};

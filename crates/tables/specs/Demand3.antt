@@ -1,17 +1,33 @@
 -- Demand 3: "For every rule sheet that 01 accepts, and every word of 1 to 64 small letters, walking the table made from that
 -- sheet gives the same word, or the same refusal, as reading the sheet itself group by group. The table made from the
--- shipped sheet gives the stem of demand 2." It holds of all groups and all words.
-use Prim.Native.Nat.{ℕ}
-use mathlib.Core.Path.{_≡_, fun-ext, ap}
-use mathlib.Core.List.{List}
+-- shipped sheet gives the stem of demand 2." Of walks it holds for all groups and all words; of what runs, for every sheet that was
+-- translated, and for the sheet and the table that are delivered.
+use Prim.Native.Nat.{ℕ, _*_}
+use mathlib.Core.Path.{_≡_, sym, ap, fun-ext, _∙_}
+use mathlib.Core.Bool.{true}
+use mathlib.Core.List.{List, [], _++_, append-nil}
+use lib.ListN.{take, drop}
+use lib.Seq.{take-at}
 use Rattle.paper.specs.Groups.{Group}
+use Rattle.paper.specs.GroupsLaws.{same-equal, same-itself}
+use Rattle.paper.specs.Nodes.{nodeCount}
 use Rattle.paper.specs.Shipped.{shipped}
-use Rattle.paper.specs.Words.{readWord, stem, wordOutcome}
+use Rattle.paper.specs.Words.{readWord, stem, wordOutcome, outcome}
+use Rattle.sheets.specs.Accepted.{groupsOf}
+use Rattle.sheets.specs.Sheets.{accepted, readSheet}
+use Rattle.sheets.specs.SheetBytes.{sheetOf}
+use Rattle.sheets.specs.ShippedSheet.{reads}
 use Rattle.siblings.specs.Layout.{tableOf}
+use Rattle.siblings.specs.CountLaws.{table-length}
+use Rattle.siblings.specs.Translations.{laidOut, translation}
+use Rattle.siblings.specs.TranslationFaithful.{translation-faithful}
+use Rattle.siblings.specs.AnsweredTranslation.{translated-0, translated-leaves}
 use Rattle.paths.specs.Children.{nodesIn}
 use Rattle.walks.specs.Walk.{walkWord}
 use Rattle.walks.specs.FaithfulWalks.{faithful-walks-words}
-use Rattle.siblings.specs.TranslationFaithful.{translation-faithful}
+use Rattle.tables.specs.RunOutcomes.{rightTable, runOf, runOutcome}
+
+-- ## Of walks
 
 -- the same word, or that some group's result was longer than the word's place
 pub demand-3 : (groups : List Group) (word : List ℕ) → walkWord (nodesIn (tableOf groups)) groups word ≡ readWord groups word
@@ -23,6 +39,42 @@ pub demand-3-outcome : (groups : List Group) (word : List ℕ)
 demand-3-outcome groups word =
     ap (λ (reading : List ℕ → _). wordOutcome reading word) (fun-ext (λ one. demand-3 groups one))
 
-pub demand-3-shipped : (word : List ℕ) → walkWord (nodesIn (tableOf shipped)) shipped word ≡ stem word
+-- ## Of runs
+
+-- on the right table a run answers what reading the sheet group by group answers
+pub right-reads : (groups : List Group) (table word : List ℕ) → rightTable groups table ≡ true
+    → runOf (accepted groups) table word ≡ wordOutcome (readWord groups) word
+unfolding runOf rightTable
+right-reads groups table word right =
+    let front = same-equal (take (4 * nodeCount groups) table) (tableOf groups) right in
+    rw (right, front) (demand-3-outcome groups word)
+
+run-reads : (sheet table word : List ℕ) (groups : List Group) → readSheet sheet ≡ accepted groups → rightTable groups table ≡ true
+    → runOutcome sheet table word ≡ wordOutcome (readWord groups) word
+unfolding runOutcome
+run-reads sheet table word groups is right = rw is (right-reads groups table word right)
+
+-- a table is the right one, whatever stands behind it
+pub right-in-front : (groups : List Group) (behind : List ℕ) → rightTable groups (tableOf groups ++ behind) ≡ true
+unfolding rightTable
+right-in-front groups behind =
+    rw (take-at (tableOf groups) behind (4 * nodeCount groups) (table-length groups)) (same-itself (tableOf groups))
+
+-- a sheet was translated, and any word is run with the table so made: the outcome is that of reading the sheet's groups
+pub demand-3-runs : (sheet table word : List ℕ) → translation sheet table .number ≡ 0
+    → runOutcome sheet (translation sheet table .place) word ≡ wordOutcome (readWord (groupsOf sheet)) word
+unfolding laidOut
+demand-3-runs sheet table word answered =
+    run-reads sheet (translation sheet table .place) word (groupsOf sheet) (translated-0 sheet table .0 answered .0)
+    (rw (translated-leaves sheet table answered) (right-in-front (groupsOf sheet) (drop (4 * nodeCount (groupsOf sheet)) table)))
+
+-- ## Of the sheet and the table that are delivered
+
+-- the table passes the test for 7
+pub delivered-right : rightTable shipped (tableOf shipped) ≡ true
+delivered-right = ap (rightTable shipped) (sym (append-nil (tableOf shipped))) ∙ right-in-front shipped []
+
+-- and its runs give the stem
+pub delivered-runs : (word : List ℕ) → runOutcome (sheetOf shipped) (tableOf shipped) word ≡ outcome word
 unfolding stem
-demand-3-shipped word = demand-3 shipped word
+delivered-runs word = run-reads (sheetOf shipped) (tableOf shipped) word shipped reads delivered-right

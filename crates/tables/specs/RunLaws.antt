@@ -1,6 +1,6 @@
 -- What the run of a table answers, case by case.
 use Prim.Native.Nat.{ℕ, _*_, _<_, _≤_}
-use mathlib.Core.Path.{_≡_, refl, sym, ap, _∙_}
+use mathlib.Core.Path.{_≡_, refl, sym, ap, subst, _∙_}
 use mathlib.Core.Bool.{Bool, true, false}
 use mathlib.Core.List.{List, _++_}
 use native.Mathlib.Omega.{arith}
@@ -10,12 +10,13 @@ use lib.Seq.{take-at, take-all}
 use borrow.Author.Tests.{ltb-true}
 use Rattle.paper.specs.Groups.{same}
 use Rattle.paper.specs.Words.{wordOutcome, Gives}
-use Rattle.paper.specs.TestLaws.{apart}
 use Rattle.sheets.specs.Sheets.{Sheet, refused, accepted, readSheet}
 use Rattle.paper.specs.Nodes.{nodeCount}
 use Rattle.siblings.specs.Layout.{tableOf}
 use Rattle.paths.specs.Children.{nodesIn}
 use Rattle.walks.specs.Walk.{walkWord}
+use Rattle.answers.specs.Answers.{numberOfTranslated, valueOfTranslated}
+use Rattle.answers.specs.declared.Translated.{Translated}
 use Rattle.siblings.specs.Translations.{laidOut, translationOf, translation}
 use Rattle.sheets.specs.Accepted.{groupsIn, groupsOf}
 use Rattle.paper.specs.TestLaws.{by-test}
@@ -24,61 +25,63 @@ use Rattle.siblings.specs.GoingLaws.{small-table}
 use Rattle.sheets.specs.Accepted.{Accepted}
 use Rattle.tables.specs.RunOutcomes.{rightTable, runOf, runOutcome}
 use Rattle.paper.specs.GroupsLaws.{same-long}
-use Rattle.siblings.specs.declared.Translated.the-variants.{Nodes, Refused, Short}
+use Rattle.answers.specs.declared.Translated.the-variants.{Nodes, Refused, Short}
 
 -- ## What the translation's answer says of the sheet
 
-refused-by : (found : Sheet) (own : List ℕ) (place : ℕ) → Refused place ≡ translationOf found own .answer → found ≡ refused place
+refused-by : (found : Sheet) (own : List ℕ) {after : List ℕ} (place : ℕ) → Gives (translationOf found own) 3 place after → found ≡ refused place
 unfolding translationOf
-refused-by (refused other) own place e = cc
-refused-by (accepted groups) own place e =
+refused-by (refused other) own place gives = ap refused (sym (gives .value-is))
+refused-by (accepted groups) own place gives =
     by-test (ltb (length own) (4 * nodeCount groups))
-    (λ p. let given : Refused place ≡ Short = rw p at e in apart (cc))
-    (λ p. let given : Refused place ≡ Nodes (nodeCount groups) = rw p at e in apart (cc))
+    (λ p. let n : 3 ≡ 6 = rw p at (gives .number-is) in absurd (omega arith))
+    (λ p. let n : 3 ≡ 0 = rw p at (gives .number-is) in absurd (omega arith))
 
-short-by : (found : Sheet) (own : List ℕ) → Short ≡ translationOf found own .answer
+short-by : (found : Sheet) (own : List ℕ) {after : List ℕ} → Gives (translationOf found own) 6 0 after
     → (found ≡ accepted (groupsIn found)) × (length own < 4 * nodeCount (groupsIn found))
 unfolding translationOf groupsIn
-short-by (refused other) own e = apart (cc)
-short-by (accepted groups) own e =
+short-by (refused other) own gives = absurd (omega (arith, gives .number-is))
+short-by (accepted groups) own gives =
     by-test (ltb (length own) (4 * nodeCount groups)) (λ p. (refl, ltb-true _ _ p))
-    (λ p. let given : Short ≡ Nodes (nodeCount groups) = rw p at e in apart (cc))
+    (λ p. let n : 6 ≡ 0 = rw p at (gives .number-is) in absurd (omega arith))
 
-nodes-by : (found : Sheet) (own : List ℕ) (nodes : ℕ) → Nodes nodes ≡ translationOf found own .answer
-    → (found ≡ accepted (groupsIn found))
-    × (nodes ≡ nodeCount (groupsIn found))
-    × (translationOf found own .table ≡ laidOut (groupsIn found) own)
+nodes-by : (found : Sheet) (own : List ℕ) {after : List ℕ} (nodes : ℕ) → Gives (translationOf found own) 0 nodes after
+    → (found ≡ accepted (groupsIn found)) × (nodes ≡ nodeCount (groupsIn found)) × (after ≡ laidOut (groupsIn found) own)
 unfolding translationOf groupsIn
-nodes-by (refused other) own nodes e = apart (cc)
-nodes-by (accepted groups) own nodes e =
+nodes-by (refused other) own nodes gives = absurd (omega (arith, gives .number-is))
+nodes-by (accepted groups) own nodes gives =
     by-test (ltb (length own) (4 * nodeCount groups))
-    (λ p. let given : Nodes nodes ≡ Short = rw p at e in apart (cc))
-    (λ p. let given : Nodes nodes ≡ Nodes (nodeCount groups) = rw p at e in (refl, cc, rw p))
+    (λ p. let n : 0 ≡ 6 = rw p at (gives .number-is) in absurd (omega arith))
+    (λ p. (refl, rw p at (gives .value-is), rw p at (gives .place-is)))
 
-module _ (sheet own table word : List ℕ) where
-  pub run-refused : (place : ℕ) → Refused place ≡ translation sheet own .answer → Gives (runOutcome sheet table word) 3 place word
+module _ (sheet own table word after : List ℕ) where
+  -- this answer of the translation, which the code found to be that one
+  abbrev Answered : Translated → Type 0
+  Answered answer = Gives (translation sheet own) (numberOfTranslated answer) (valueOfTranslated answer) after
+
+  pub run-refused : {answer : Translated} (place : ℕ) → answer ≡ Refused place → Answered answer → Gives (runOutcome sheet table word) 3 place word
   unfolding translation runOutcome runOf
-  run-refused place e = rw (refused-by (readSheet sheet) own place e) (record { number-is = refl; value-is = refl; place-is = refl })
+  run-refused place is gives =
+      rw (refused-by (readSheet sheet) own place (subst Answered is gives)) (record { number-is = refl; value-is = refl; place-is = refl })
 
-  pub never-short : length own ≡ 6208 → Short ≡ translation sheet own .answer → ⊥
+  pub never-short : {answer : Translated} → length own ≡ 6208 → answer ≡ Short → Answered answer → ⊥
   unfolding translation groupsOf
-  never-short long e =
-      let is = short-by (readSheet sheet) own e in
-      omega (arith, small-table sheet (is .0), is .1)
+  never-short long is gives =
+      let found = short-by (readSheet sheet) own (subst Answered is gives) in
+      omega (arith, small-table sheet (found .0), found .1)
 
-  module _ (nodes : ℕ) (e : Nodes nodes ≡ translation sheet own .answer) where
+  module _ (nodes : ℕ) {answer : Translated} (is : answer ≡ Nodes nodes) (gives : Answered answer) where
     pub run-accepted : Accepted sheet × (nodes ≡ nodeCount (groupsOf sheet)) × (4 * nodes ≤ 6208)
     unfolding translation groupsOf
-    run-accepted = let is = nodes-by (readSheet sheet) own nodes e in (is .0, is .1, omega (arith, small-table sheet (is .0), is .1))
-
-    laid : translation sheet own .table ≡ tableOf (groupsOf sheet) ++ drop (4 * nodeCount (groupsOf sheet)) own
-    unfolding translation groupsOf laidOut
-    laid = nodes-by (readSheet sheet) own nodes e .2
+    run-accepted =
+        let found = nodes-by (readSheet sheet) own nodes (subst Answered is gives) in
+        (found .0, found .1, omega (arith, small-table sheet (found .0), found .1))
 
     -- the first numbers of the translated table are the sheet's
-    pub own-front : (after : List ℕ) → after ≡ translation sheet own .table → take (4 * nodes) after ≡ tableOf (groupsOf sheet)
-    own-front after there =
-        rw (there ∙ laid, run-accepted .1)
+    own-front : take (4 * nodes) after ≡ tableOf (groupsOf sheet)
+    unfolding translation groupsOf laidOut
+    own-front =
+        rw (nodes-by (readSheet sheet) own nodes (subst Answered is gives) .2, run-accepted .1)
         (take-at (tableOf (groupsOf sheet)) (drop (4 * nodeCount (groupsOf sheet)) own) (4 * nodeCount (groupsOf sheet))
         (table-length (groupsOf sheet)))
 
@@ -93,11 +96,10 @@ module _ (sheet own table word : List ℕ) where
         (λ z. let all = ap length (take-all (4 * nodeCount (groupsOf sheet)) table (omega (arith, run-accepted .1))) in
         omega (arith, run-accepted .1, table-length (groupsOf sheet), all)))
 
-    module _ (after : List ℕ) (there : after ≡ translation sheet own .table) (test : Bool) (compared : test
-        ≡ same (take (4 * nodes) table) (take (4 * nodes) after)) where
+    module _ (test : Bool) (compared : test ≡ same (take (4 * nodes) table) (take (4 * nodes) after)) where
       right-by : rightTable (groupsOf sheet) table ≡ test
       unfolding rightTable
-      right-by = sym (compared ∙ rw (own-front after there, run-accepted .1))
+      right-by = sym (compared ∙ rw (own-front, run-accepted .1))
 
       pub run-other : test ≡ false → Gives (runOutcome sheet table word) 7 0 word
       run-other t = wrong (right-by ∙ t)

@@ -1,6 +1,6 @@
 // A run on a word: what is said of the word before, the walk, and what is left in the word's place.
 ghost use Rattle.paper.specs.Words.{wordOutcome, Gives};
-ghost use Rattle.answers.specs.WordAnswers.{numberOf, valueOf};
+ghost use Rattle.answers.specs.Answers.{numberOf, valueOf};
 ghost use Rattle.paths.specs.Children.{nodesIn};
 ghost use Rattle.walks.specs.Walk.{walkWord};
 ghost use Rattle.sheets.specs.Accepted.{groupsOf, Accepted};

@@ -2,6 +2,7 @@
 pub mod Texts
 pub mod TextAnswers
 -- Then what is shown of them, and, for the shipped rules, 01's samples.
+pub mod Demand2Texts
 pub mod TextsLaws
 pub mod OutcomeLaws
 pub mod WordCalls

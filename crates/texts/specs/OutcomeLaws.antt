@@ -15,7 +15,7 @@ use Rattle.pieces.specs.Pieces.{isLetter, pieces}
 use Rattle.texts.specs.Texts.{Outcome, runText, refused, finished, textOutcome}
 use Rattle.texts.specs.TextAnswers.{Gives}
 use Rattle.texts.specs.TextsLaws.{wordCount, words-within, counts-add-up, length-stays, others-stay}
-use Rattle.texts.specs.declared.TextRun.the-variants.{Done, TooLong}
+use Rattle.answers.specs.declared.TextRun.the-variants.{Done, TooLong}
 
 module _ (rule : List ℕ → Reading) (text : List ℕ) where
   pub refused-over : 65536 < length text → textOutcome rule text ≡ refused text

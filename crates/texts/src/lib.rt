@@ -9,15 +9,8 @@ ghost use Rattle.paper.specs.Words.{stem};
 ghost use Rattle.pieces.specs.Pieces.{lowered};
 ghost use Rattle.pieces.specs.LongestRuns.{allLetters, IsWord};
 ghost use Rattle.texts.specs.Texts.{ofWord, stemmedTo, textOutcome};
-ghost use Rattle.texts.specs.TextAnswers.{numberOf, stemmedOf, leftOf, Gives};
-
-// What a call of the text run answers.
-pub enum TextRun {
-    // Every word was rewritten or left: how many of each.
-    Done { stemmed: usize, left: usize },
-    // The text has more than 65,536 bytes; it is unchanged.
-    TooLong,
-}
+ghost use Rattle.texts.specs.TextAnswers.{Gives};
+use answers::TextRun;
 
 // The letters of a word made small, where they stand.
 fn make_small(word: &mut [u8])
@@ -63,30 +56,4 @@ pub fn run(text: &mut [u8]) -> TextRun
         at = end;
     }
     TextRun::Done { stemmed, left }
-}
-
-// What is returned to a caller in numbers: document 01's number, the words stemmed and the words left.
-pub struct TextReply {
-    pub number: u8,
-    pub stemmed: usize,
-    pub left: usize,
-}
-
-pub fn told(answer: TextRun) -> TextReply
-    ensures { λ r. ⌜ r .number ≡ numberOf answer ⌝ }
-    ensures { λ r. ⌜ r .stemmed ≡ stemmedOf answer ⌝ }
-    ensures { λ r. ⌜ r .left ≡ leftOf answer ⌝ }
-{
-    match answer {
-        TextRun::Done { stemmed, left } => TextReply {
-            number: 0,
-            stemmed,
-            left,
-        },
-        TextRun::TooLong => TextReply {
-            number: 5,
-            stemmed: 0,
-            left: 0,
-        },
-    }
 }

@@ -1,6 +1,6 @@
 // The word stemmer: what is said of a word before it is read, the shipped rules read in its own place, and the spaces behind the stem.
 ghost use Rattle.paper.specs.Words.{outcome, Gives};
-ghost use Rattle.answers.specs.WordAnswers.{numberOf, valueOf};
+ghost use Rattle.answers.specs.Answers.{numberOf, valueOf};
 use answers::Answer;
 use answers::Judged;
 

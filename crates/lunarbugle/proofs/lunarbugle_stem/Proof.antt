@@ -11,8 +11,8 @@ use Rattle.lunarbugle.proofs.lunarbugle_stem.Tie as tie
 stem-requires : tie.Need-stem-requires
 stem-requires c κs = search needs
 
-told-requires : tie.Need-told-requires
-told-requires c κs = search needs
+of-word-requires : tie.Need-of-word-requires
+of-word-requires c κs = search needs
 
 cast-number : tie.Need-cast-number
 cast-number c = search needs
@@ -21,13 +21,13 @@ mul-result : tie.Need-mul-result
 mul-result c =
     let gives = c .before .before .before .before .stem .ensures in
     let bounds = outcome-bounds stem stem-never-lengthens (c .before .before .before .before .before .before .before .args .word .now) in
-    omega (arith, c .before .told .ensures .1, gives .value-is, bounds .value)
+    omega (arith, c .before .of-word .ensures .1, gives .value-is, bounds .value)
 
 add-result : tie.Need-add-result
 add-result c =
     let gives = c .before .before .before .before .stem .ensures in
     let bounds = outcome-bounds stem stem-never-lengthens (c .before .before .before .before .before .before .before .args .word .now) in
-    omega (arith, c .before .told .ensures .1, gives .value-is, bounds .value, c .before .told .ensures .0, gives .number-is, bounds .number)
+    omega (arith, c .before .of-word .ensures .1, gives .value-is, bounds .value, c .before .of-word .ensures .0, gives .number-is, bounds .number)
 
 same-length : tie.Need-same-length
 same-length c = search needs
@@ -36,7 +36,7 @@ returns : tie.Need-returns
 unfolding packed
 returns c =
     let gives = c .before .before .before .before .stem .ensures in
-    (omega (arith, c .before .told .ensures .1, gives .value-is, c .before .told .ensures .0, gives .number-is), gives .place-is)
+    (omega (arith, c .before .of-word .ensures .1, gives .value-is, c .before .of-word .ensures .0, gives .number-is), gives .place-is)
 
 pub lunarbugle-stem-spec : {M : Type 1} → statement M
-lunarbugle-stem-spec = tie.close (tie.spec stem-requires told-requires cast-number mul-result add-result same-length returns)
+lunarbugle-stem-spec = tie.close (tie.spec stem-requires of-word-requires cast-number mul-result add-result same-length returns)

@@ -20,12 +20,12 @@ record Told (text : List ℕ) (number stemmed left : ℕ) : Type 0 where
   few : stemmed + left ≤ 65536
 
 told : (c : tie.After-struct-known)
-    → (let reply = c .before .told .result in
+    → (let reply = c .before .of-text .result in
     Told (c .before .before .before .before .before .before .before .args .text .now) (reply .number) (reply .stemmed) (reply .left))
 told c =
     let text = c .before .before .before .before .before .before .before .args .text .now in
     let gives = c .before .before .before .before .run .ensures in
-    let says = c .before .told .ensures in
+    let says = c .before .of-text .ensures in
     let number = says .0 ∙ gives .number-is in
     let stemmed = says .1 .0 ∙ gives .stemmed-is in
     let left = says .1 .1 ∙ gives .left-is in
@@ -40,8 +40,8 @@ told c =
 run-requires : tie.Need-run-requires
 run-requires c κs = search needs
 
-told-requires : tie.Need-told-requires
-told-requires c κs = search needs
+of-text-requires : tie.Need-of-text-requires
+of-text-requires c κs = search needs
 
 cast-number : tie.Need-cast-number
 cast-number c = search needs
@@ -71,4 +71,4 @@ returns c = (
 pub lunarbugle-text-spec : {M : Type 1} → statement M
 lunarbugle-text-spec =
     tie.close
-    (tie.spec run-requires told-requires cast-number mul-result add-result mul-result-2 add-result-2 same-length returns)
+    (tie.spec run-requires of-text-requires cast-number mul-result add-result mul-result-2 add-result-2 same-length returns)

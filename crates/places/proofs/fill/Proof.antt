@@ -3,13 +3,11 @@ use Prim.Native.Nat.{ℕ, suc, _+_, _-_, _≤_, _<_}
 use native.Mathlib.Omega.{arith}
 use mathlib.Core.Path.{_≡_, refl, sym, ap, ap₂, _∙_}
 use mathlib.Core.List.{List, _++_, append-nil}
-use lib.ListN.{length, take, replicate, set, getD, length-set, length-replicate, getD-replicate}
+use lib.ListN.{length, take, set, getD, length-set, length-replicate, getD-replicate}
 use lib.Seq.{paste, paste-zero, paste-suc, take-all, drop-length}
+use Rattle.paper.specs.Words.{spaces}
 use Rattle.places.proofs.fill.Statement.{statement}
 use Rattle.places.proofs.fill.Tie as tie
-
-abbrev spaces : ℕ → List ℕ
-spaces n = replicate n 32
 
 -- the place with so many spaces behind the stem
 abbrev spaced : List ℕ → ℕ → ℕ → List ℕ

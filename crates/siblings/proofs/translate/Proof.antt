@@ -4,8 +4,8 @@ use mathlib.Core.Path.{_≡_, sym, ap, _∙_}
 use native.Mathlib.Omega.{arith}
 use lib.Seq.{length-take-le}
 use borrow.Author.Needs.{needs}
-use Rattle.sheets.specs.CheckAnswers.{checked}
-use Rattle.sheets.specs.declared.Checked.the-variants.{Accepted as Counted}
+use Rattle.answers.specs.Answers.{counting, tells}
+use Rattle.sheets.specs.Checks.{checked}
 use Rattle.siblings.specs.GoingLaws.{small-table}
 use Rattle.siblings.specs.TranslationLaws.{checked-accepted, translation-refused, translation-short, translation-done}
 use Rattle.siblings.specs.TranslationLaws.{translation-empty}
@@ -24,8 +24,8 @@ enum-known-found-2 c = search needs
 -- the sheet is accepted, with so many nodes and groups
 counted-of : (c : tie.After-known-told2)
     → (let given = c .before .found2 .given .0 in
-    checked (c .before .before .before .before .before .before .args .sheet .now) ≡ Counted (given .0) (given .1 .0))
-counted-of c = sym (c .before .before .before .check .ensures) ∙ c .before .found2 .given .1
+    counting (given .0) (given .1 .0) ≡ checked (c .before .before .before .before .before .before .args .sheet .now))
+counted-of c = sym (ap tells (c .before .found2 .given .1)) ∙ c .before .before .before .check .ensures
 
 mul-end : tie.Need-mul-end
 mul-end c =
@@ -55,7 +55,7 @@ lay-requires c κs =
     (is .0, (above-none _ (c .before .if2 .taken), (is .2, long ∙ ap (λ (n : ℕ). 4 * n) (is .1))))
 
 returns-2 : tie.Need-returns-2
-returns-2 c = translation-refused _ _ _ (sym (c .before .before .before .check .ensures) ∙ c .before .found .given .1)
+returns-2 c = translation-refused _ _ _ (sym (ap tells (c .before .found .given .1)) ∙ c .before .before .before .check .ensures)
 
 same-length : tie.Need-same-length
 same-length c = search needs

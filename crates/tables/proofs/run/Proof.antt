@@ -33,8 +33,8 @@ accepted-of : (c : tie.After-known-told2)
     Accepted sheet × (nodes ≡ nodeCount (groupsOf sheet)) × (4 * nodes ≤ 6208))
 accepted-of c =
     let a = c .before .before .before .before .before .before .before .before .before .args in
-    run-accepted (a .sheet .now) _ (a .table .now) (a .word .now) _
-    (sym (c .before .found2 .given .1) ∙ c .before .before .before .before .translate .ensures .0)
+    run-accepted (a .sheet .now) _ (a .table .now) (a .word .now) _ _
+    (c .before .found2 .given .1) (c .before .before .before .before .translate .ensures)
 
 mul-size : tie.Need-mul-size
 mul-size c = let small = accepted-of c .2 in omega arith
@@ -42,7 +42,7 @@ mul-size c = let small = accepted-of c .2 in omega arith
 returns : tie.Need-returns
 returns c =
     let translated = c .before .before .before .before .before .translate .ensures in
-    run-missing _ _ _ _ _ (sym (c .before .before .found2 .given .1) ∙ translated .0) (c .if1 .taken)
+    run-missing _ _ _ _ _ _ (c .before .before .found2 .given .1) translated (c .if1 .taken)
 
 slice-aggregate-same-numbers : tie.Need-slice-aggregate-same-numbers
 slice-aggregate-same-numbers c = sym (length-take-le (4 * c .before .before .before .found2 .given .0 .0)
@@ -68,7 +68,7 @@ same-numbers-requires c κs = search needs
 returns-2 : tie.Need-returns-2
 returns-2 c =
     let translated = c .before .before .before .before .before .before .before .before .before .translate .ensures in
-    run-other _ _ _ _ _ (sym (c .before .before .before .before .before .before .found2 .given .1) ∙ translated .0) _ (translated .1) _
+    run-other _ _ _ _ _ _ (c .before .before .before .before .before .before .found2 .given .1) translated _
     (c .before .same-numbers .ensures) (not-true _ (c .if2 .taken))
 
 slice-aggregate-word-run : tie.Need-slice-aggregate-word-run
@@ -81,13 +81,13 @@ word-run-requires : tie.Need-word-run-requires
 word-run-requires c κs = accepted-of (c .before .before .before .before .before .before .before) .0
 
 returns-3 : tie.Need-returns-3
-returns-3 c = run-refused _ _ _ _ _ (sym (c .before .found .given .1) ∙ c .before .before .before .before .translate .ensures .0)
+returns-3 c = run-refused _ _ _ _ _ _ (c .before .found .given .1) (c .before .before .before .before .translate .ensures)
 
 returns-4 : tie.Need-returns-4
 returns-4 c =
     let a = c .before .before .before .before .before .before .before .before .args in
-    absurd (never-short (a .sheet .now) _ (a .table .now) (a .word .now) refl (sym (c .enum-told .given .1)
-    ∙ c .before .before .before .translate .ensures .0))
+    absurd (never-short (a .sheet .now) _ (a .table .now) (a .word .now) _ refl (c .enum-told .given .1)
+    (c .before .before .before .translate .ensures))
 
 same-length : tie.Need-same-length
 same-length c = search needs
@@ -97,7 +97,7 @@ returns-5 c =
     let compared = c .before .before .before .before .before .before in
     let known = compared .before .before .before .before .before in
     let translated = known .before .before .before .translate .ensures in
-    run-right _ _ _ _ _ (sym (known .found2 .given .1) ∙ translated .0) _ (translated .1) _ (compared .same-numbers .ensures)
+    run-right _ _ _ _ _ _ (known .found2 .given .1) translated _ (compared .same-numbers .ensures)
     (not-false _ (c .before .before .before .before .before .if2 .left)) (c .before .before .word-run .ensures)
 
 pub run-spec : {M : Type 1} → statement M

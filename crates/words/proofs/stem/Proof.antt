@@ -4,7 +4,7 @@ use native.Mathlib.Omega.{arith}
 use borrow.Author.Needs.{needs}
 use Rattle.paper.specs.Words.{stem}
 use Rattle.paper.specs.WordsLaws.{gives-refused, gives-done}
-use Rattle.answers.specs.WordAnswers.{judgementOf}
+use Rattle.answers.specs.Answers.{judgementOf}
 use Rattle.words.proofs.stem.Statement.{statement}
 use Rattle.words.proofs.stem.Tie as tie
 

@@ -7,7 +7,7 @@ use borrow.Author.Needs.{needs}
 use Rattle.paper.specs.Words.{taken, judged}
 use Rattle.paper.specs.WordsLaws.{taken-short, gives-refused, gives-outgrown, gives-done}
 use Rattle.places.specs.Put.{put-back}
-use Rattle.answers.specs.WordAnswers.{judgementOf}
+use Rattle.answers.specs.Answers.{judgementOf}
 use Rattle.tables.proofs.word_runs.word_run.Statement.{statement}
 use Rattle.tables.proofs.word_runs.word_run.Tie as tie
 

@@ -1,0 +1,89 @@
+-- An answer is told by its numbers: any two answers that a contract allows are equal.
+use Prim.Native.Nat.{ℕ}
+use mathlib.Core.Path.{_≡_, refl, sym, ap, _∙_}
+use mathlib.Core.Bool.{cond}
+use lib.Dec.{eqb}
+use Rattle.paper.specs.Settled.{Told, settled}
+use Rattle.paper.specs.Words.{Judgement, taken, turnedDown}
+use Rattle.answers.specs.Answers.{numberOf, valueOf, judgementOf, Check, tells, numberOfTranslated, valueOfTranslated}
+use Rattle.answers.specs.Answers.{numberOfRan, valueOfRan}
+use Rattle.answers.specs.declared.Answer.{Answer}
+use Rattle.answers.specs.declared.Answer.the-variants.{Done, WrongLength, OtherByte, Outgrown}
+use Rattle.answers.specs.declared.Judged.{Judged}
+use Rattle.answers.specs.declared.Judged.the-variants.{Taken, Refused as Turned}
+use Rattle.answers.specs.declared.Checked.{Checked}
+use Rattle.answers.specs.declared.Checked.the-variants.{Accepted, Refused as Faulty}
+use Rattle.answers.specs.declared.Translated.{Translated}
+use Rattle.answers.specs.declared.Translated.the-variants.{Nodes, Refused as Untranslated, Short}
+use Rattle.answers.specs.declared.Ran.{Ran}
+use Rattle.answers.specs.declared.Ran.the-variants.{Word, Refused as Unread, Table}
+
+-- ## A word
+
+unfoldable pub answerOf : ℕ → ℕ → Answer
+answerOf number value =
+    cond (eqb number 0) (Done value) (cond (eqb number 1) WrongLength (cond (eqb number 2) OtherByte Outgrown))
+
+pub answer-is : (answer : Answer) → answerOf (numberOf answer) (valueOf answer) ≡ answer
+unfolding answerOf
+answer-is (Done n) = refl
+answer-is WrongLength = refl
+answer-is OtherByte = refl
+answer-is Outgrown = refl
+
+abbrev pub answers : Told Answer
+answers = record { number = numberOf; value = valueOf; back = answerOf; back-is = answer-is }
+
+unfoldable judgedOf : Judgement → Judged
+judgedOf taken = Taken
+judgedOf (turnedDown number value) = Turned (answerOf number value)
+
+judged-is : (one : Judged) → judgedOf (judgementOf one) ≡ one
+unfolding judgedOf
+judged-is Taken = refl
+judged-is (Turned answer) = ap Turned (answer-is answer)
+
+pub judged-one : {said : Judgement} (one other : Judged) → judgementOf one ≡ said → judgementOf other ≡ said → one ≡ other
+judged-one one other is also = sym (judged-is one) ∙ ap judgedOf (settled is also) ∙ judged-is other
+
+-- ## A sheet
+
+unfoldable checkedOf : Check → Checked
+checkedOf check = cond (eqb (check .number) 0) (Accepted (check .value) (check .groups)) (Faulty (check .value))
+
+checked-is : (answer : Checked) → checkedOf (tells answer) ≡ answer
+unfolding checkedOf
+checked-is (Accepted nodes groups) = refl
+checked-is (Faulty place) = refl
+
+pub checked-one : {check : Check} (one other : Checked) → tells one ≡ check → tells other ≡ check → one ≡ other
+checked-one one other is also = sym (checked-is one) ∙ ap checkedOf (settled is also) ∙ checked-is other
+
+-- ## A translation, and a table run
+
+unfoldable pub translatedOf : ℕ → ℕ → Translated
+translatedOf number value = cond (eqb number 0) (Nodes value) (cond (eqb number 3) (Untranslated value) Short)
+
+pub translated-is : (answer : Translated) → translatedOf (numberOfTranslated answer) (valueOfTranslated answer) ≡ answer
+unfolding translatedOf
+translated-is (Nodes count) = refl
+translated-is (Untranslated place) = refl
+translated-is Short = refl
+
+abbrev pub translations : Told Translated
+translations = record { number = numberOfTranslated; value = valueOfTranslated; back = translatedOf; back-is = translated-is }
+
+unfoldable pub ranOf : ℕ → ℕ → Ran
+ranOf number value = cond (eqb number 3) (Unread value) (cond (eqb number 7) Table (Word (answerOf number value)))
+
+pub ran-is : (ran : Ran) → ranOf (numberOfRan ran) (valueOfRan ran) ≡ ran
+unfolding ranOf answerOf
+ran-is (Word (Done size)) = refl
+ran-is (Word WrongLength) = refl
+ran-is (Word OtherByte) = refl
+ran-is (Word Outgrown) = refl
+ran-is (Unread place) = refl
+ran-is Table = refl
+
+abbrev pub runs : Told Ran
+runs = record { number = numberOfRan; value = valueOfRan; back = ranOf; back-is = ran-is }

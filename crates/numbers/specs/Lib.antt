@@ -1,2 +1,0 @@
--- Two lists of numbers compared.
-pub mod SameNumbers

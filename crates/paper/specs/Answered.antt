@@ -1,0 +1,184 @@
+-- "answered n exactly when ..": each number of document 01 for a call on a word, whatever reads the word; and 4 in 01's words, of a
+-- word that is read by groups.
+use Prim.Native.Nat.{ℕ, _≤_, _<_}
+use native.Mathlib.Omega.{arith}
+use mathlib.Core.Path.{_≡_, refl, sym, ap, _∙_}
+use mathlib.Core.Bool.{true, false, true≢false}
+use mathlib.Core.List.{List, [], _∷_, map}
+use mathlib.Core.List.{List·Memᴰ, List·Memᴰ·head, List·Memᴰ·tail, List·Memᴰ·not-nil, List·Memᴰ·cases-cons}
+use mathlib.Core.Logic.{_↔_, _⊎_, inl, inr, ⊎-elim}
+use lib.Dec.{eqb, leb, ltb}
+use lib.ListN.{length}
+use borrow.Author.Tests.{eqb-true, eqb-false, ltb-true, ltb-false, leb-true, leb-false}
+use Rattle.paper.specs.Groups.{Group, readTurn, Step, steps, Reading, done, outgrown, reading}
+use Rattle.paper.specs.TestLaws.{by-test, or-cases, neither-left, neither-right, and-parts, apart}
+use Rattle.paper.specs.Words.{wrongLength, small, allSmall, Outcome, readingOutcome, wordOutcome, readWord}
+use Rattle.paper.specs.WordsLaws.{judged-empty, judged-long, judged-other, judged-taken, gives-refused, outcome-taken}
+
+-- "the word has 0 or more than 64 bytes"
+abbrev pub WrongLength : List ℕ → Type 0
+WrongLength word = (length word ≡ 0) ⊎ (64 < length word)
+
+-- it has 1 to 64
+pub record RightLength (word : List ℕ) : Type 0 where
+  pub least : 1 ≤ length word
+  pub most : length word ≤ 64
+
+-- "a byte of the word is outside a to z"
+abbrev pub OtherByte : List ℕ → Type 0
+OtherByte word = (byte : ℕ) × List·Memᴰ byte word × (small byte ≡ false)
+
+-- 1 to 64 small letters
+abbrev pub SmallWord : List ℕ → Type 0
+SmallWord word = RightLength word × (allSmall word ≡ true)
+
+other-in : (word : List ℕ) → allSmall word ≡ false → OtherByte word
+unfolding allSmall
+other-in [] is = absurd (true≢false is)
+other-in (byte ∷ bytes) is =
+    by-test (small byte)
+    (λ here. let found = other-in bytes (rw here at is) in (found .0, List·Memᴰ·tail (found .1), found .2))
+    (λ here. (byte, List·Memᴰ·head refl, here))
+
+small-in : (word : List ℕ) (byte : ℕ) → allSmall word ≡ true → List·Memᴰ byte word → small byte ≡ true
+unfolding allSmall
+small-in [] byte all m = absurd (List·Memᴰ·not-nil m)
+small-in (one ∷ bytes) byte all m =
+    let both = and-parts (small one) (allSmall bytes) all in
+    ⊎-elim (λ same. rw same (both .0)) (λ later. small-in bytes byte (both .1) later) (List·Memᴰ·cases-cons m)
+
+-- ## The four ways out of a call
+
+module _ (rule : List ℕ → Reading) (word : List ℕ) where
+  abbrev number : ℕ
+  number = wordOutcome rule word .number
+
+  wrong-length : WrongLength word → number ≡ 1
+  wrong-length wrong =
+      ⊎-elim (λ none. sym (gives-refused rule word (sym (judged-empty word none)) .number-is))
+      (λ long. sym (gives-refused rule word (sym (judged-long word long)) .number-is)) wrong
+
+  module _ (right : RightLength word) where
+    other-byte : allSmall word ≡ false → number ≡ 2
+    other-byte other =
+        sym (gives-refused rule word (sym (judged-other word (λ none. omega (arith, right .least)) (right .most) other)) .number-is)
+
+    module _ (all : allSmall word ≡ true) where
+      read : {given : Reading} → rule word ≡ given → number ≡ readingOutcome word given .number
+      read is =
+          let is-taken = sym (judged-taken word (λ none. omega (arith, right .least)) (right .most) all) in
+          ap (λ (o : Outcome). o .number) (outcome-taken rule word is-taken ∙ ap (readingOutcome word) is)
+
+  data Way : Type 0 where
+    wrong : WrongLength word → number ≡ 1 → Way
+    other : RightLength word → OtherByte word → number ≡ 2 → Way
+    longer : SmallWord word → rule word ≡ outgrown → number ≡ 4 → Way
+    stemmed : SmallWord word → (stem : List ℕ) → rule word ≡ done stem → number ≡ 0 → Way
+
+  way : Way
+  unfolding wrongLength readingOutcome
+  way =
+      by-test (wrongLength word)
+      (λ is.
+      let said : WrongLength word = or-cases (eqb (length word) 0) (ltb 64 (length word)) is (λ none. inl (eqb-true _ _ none)) (λ long. inr (ltb-true _ _ long)) in
+      wrong said (wrong-length said))
+      (λ is.
+      let none = eqb-false (length word) 0 (neither-left (eqb (length word) 0) (ltb 64 (length word)) is) in
+      let right : RightLength word
+      = record { least = omega (arith, none); most = ltb-false 64 (length word) (neither-right (eqb (length word) 0) (ltb 64 (length word)) is) } in
+      by-test (allSmall word)
+      (λ all. by-reading right all (rule word) refl)
+      (λ some. other right (other-in word some) (other-byte right some)))
+    where
+      by-reading : RightLength word → allSmall word ≡ true → (given : Reading) → rule word ≡ given → Way
+      by-reading right all (done stem) is = stemmed (right, all) stem is (read right all is)
+      by-reading right all outgrown is = longer (right, all) is (read right all is)
+
+  -- ## Each number, both ways
+
+  -- no other number is answered
+  pub at-most-4 : number ≤ 4
+  at-most-4 = of way
+    where
+      of : Way → number ≤ 4
+      of (wrong said n) = omega (arith, n)
+      of (other right some n) = omega (arith, n)
+      of (longer small-word grown n) = omega (arith, n)
+      of (stemmed small-word stem gives n) = omega (arith, n)
+
+  pub never-3 : number ≡ 3 → ⊥
+  never-3 is = of way
+    where
+      of : Way → ⊥
+      of (wrong said n) = omega (arith, n, is)
+      of (other right some n) = omega (arith, n, is)
+      of (longer small-word grown n) = omega (arith, n, is)
+      of (stemmed small-word stem gives n) = omega (arith, n, is)
+
+  pub answered-1 : (number ≡ 1) ↔ WrongLength word
+  answered-1 = (λ is. to way is, wrong-length)
+    where
+      to : Way → number ≡ 1 → WrongLength word
+      to (wrong said n) is = said
+      to (other right some n) is = absurd (omega (arith, n, is))
+      to (longer small-word grown n) is = absurd (omega (arith, n, is))
+      to (stemmed small-word stem gives n) is = absurd (omega (arith, n, is))
+
+  pub answered-2 : (number ≡ 2) ↔ (RightLength word × OtherByte word)
+  answered-2 = (λ is. to way is, back)
+    where
+      to : Way → number ≡ 2 → RightLength word × OtherByte word
+      to (wrong said n) is = absurd (omega (arith, n, is))
+      to (other right some n) is = (right, some)
+      to (longer small-word grown n) is = absurd (omega (arith, n, is))
+      to (stemmed small-word stem gives n) is = absurd (omega (arith, n, is))
+
+      back : RightLength word × OtherByte word → number ≡ 2
+      back both =
+          let other = both .1 in
+          by-test (allSmall word) (λ all. absurd (true≢false (sym (small-in word (other .0) all (other .1)) ∙ other .2)))
+          (other-byte (both .0))
+
+  pub answered-4 : (number ≡ 4) ↔ (SmallWord word × (rule word ≡ outgrown))
+  unfolding readingOutcome
+  answered-4 = (λ is. to way is, λ both. read (both .0 .0) (both .0 .1) (both .1))
+    where
+      to : Way → number ≡ 4 → SmallWord word × (rule word ≡ outgrown)
+      to (wrong said n) is = absurd (omega (arith, n, is))
+      to (other right some n) is = absurd (omega (arith, n, is))
+      to (longer small-word grown n) is = (small-word, grown)
+      to (stemmed small-word stem gives n) is = absurd (omega (arith, n, is))
+
+  pub answered-0 : (number ≡ 0) ↔ (SmallWord word × ((stem : List ℕ) × (rule word ≡ done stem)))
+  unfolding readingOutcome
+  answered-0 = (λ is. to way is, λ both. read (both .0 .0) (both .0 .1) (both .1 .1))
+    where
+      to : Way → number ≡ 0 → SmallWord word × ((stem : List ℕ) × (rule word ≡ done stem))
+      to (wrong said n) is = absurd (omega (arith, n, is))
+      to (other right some n) is = absurd (omega (arith, n, is))
+      to (longer small-word grown n) is = absurd (omega (arith, n, is))
+      to (stemmed small-word stem gives n) is = (small-word, (stem, gives))
+
+-- ## "some group's result is longer than the word's place"
+
+abbrev pub SomeLonger : ℕ → List Step → Type 0
+SomeLonger place given = (step : Step) × List·Memᴰ step given × (place < length (step .word))
+
+reading-outgrown : (place : ℕ) (word : List ℕ) (given : List Step) → (reading place word given ≡ outgrown) ↔ SomeLonger place given
+unfolding reading
+reading-outgrown place word [] = (λ is. apart (cc), λ some. absurd (List·Memᴰ·not-nil (some .1)))
+reading-outgrown place word (step ∷ later) =
+    let rest = reading-outgrown place (step .word) later in
+    by-test (leb (length (step .word)) place)
+    (λ fits. (
+      λ is. let found = rest .0 (rw fits at is) in (found .0, List·Memᴰ·tail (found .1), found .2),
+      λ some. rw fits (⊎-elim
+          (λ same. absurd (omega (arith, leb-true (length (step .word)) place fits, some .2, ap (λ (s : Step). length (s .word)) same)))
+          (λ stands. rest .1 (some .0, stands, some .2)) (List·Memᴰ·cases-cons (some .1))),
+    ))
+    (λ over. (λ is. (step, List·Memᴰ·head refl, leb-false _ _ over), λ some. rw over))
+
+pub outgrown-exactly : (groups : List Group) (word : List ℕ)
+    → (readWord groups word ≡ outgrown) ↔ SomeLonger (length word) (steps (map readTurn groups) false word)
+unfolding readWord
+outgrown-exactly groups word = reading-outgrown (length word) word (steps (map readTurn groups) false word)
