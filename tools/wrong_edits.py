@@ -64,7 +64,7 @@ def edited(edit, file, text):
     for changed, old, new in edit.changes:
         if changed == file:
             if text.count(old) != 1:
-                raise ValueError(f"{edit.name}: an old text stands {text.count(old)} times in {file}")
+                raise ValueError(f"an old text stands {text.count(old)} times in {file}")
             text = text.replace(old, new)
     return text
 
