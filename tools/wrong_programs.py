@@ -10,7 +10,7 @@ from pathlib import Path
 from wrong_edits import CRATES, ROOT, edited
 from wrong_inputs import Call, program_of, values_of
 
-from probing import CHECK, EMULATE, ENDED, NEXT, TRANSLATE, coded_request, decoded
+from probing import CHECK, EMULATE, ENDED, NEXT, TRANSLATE, coded_request, decoded  # of compare/, which wrong_inputs finds
 
 KIT_LIBRARIES = ["std", "libc", "io"]
 SECONDS = 20  # more than any right run takes
