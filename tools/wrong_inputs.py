@@ -120,6 +120,7 @@ def written(kind):
         "usize": "output::number(result);",
         "u64": "output::number((result % 4294967296) as usize); output::number((result / 4294967296) as usize);",
         "&[u8]": "output::bytes(result);",
+        "Ran": "let reply = answers::of_run(result); output::reply(reply.number, reply.value);",
     }[kind]
 
 
@@ -156,14 +157,18 @@ fn main() {{
 def values_of(call, coded):
     """What the program of a call wrote: its result and the room."""
     kind = result_of(call)
-    size = {"": 0, "bool": 1, "usize": 4, "u64": 8}.get(kind, len(coded))
+    size = {"": 0, "bool": 1, "usize": 4, "u64": 8, "Ran": 5}.get(kind, len(coded))
     result, room = coded[:size], coded[size:]
     if len(result) < size:
         return [coded]
     if kind.startswith("[u16"):
         values = [list(struct.unpack(f"<{size // 2}H", result))]
+    elif kind == "Ran":
+        values = list(struct.unpack("<BI", result))
     elif kind == "bool":
         values = ["true" if result[0] else "false"]
+    elif kind in ("usize", "u64"):
+        values = [int.from_bytes(result, "little")]
     else:
-        values = [int.from_bytes(result, "little") if kind in ("usize", "u64") else result]
-    return values[: 1 if kind else 0] + ([room] if call.room else [])
+        values = [result] if kind else []
+    return values + ([room] if call.room else [])

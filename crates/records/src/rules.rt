@@ -1,30 +1,21 @@
 // The body of a rule: "bytes for condition, action, opens, length n of S1; then n letters of S1; the rest is S2".
 ghost use mathlib.Core.Path.{_≡_};
-ghost use mathlib.Core.Bool.{not, _&&_, _||_};
+ghost use mathlib.Core.Bool.{_||_};
 ghost use Prim.Native.Nat.{_+_, _<_};
-ghost use lib.Dec.{eqb, ltb};
+ghost use lib.Dec.{ltb};
 ghost use lib.ListN.{length};
-ghost use Rattle.paper.specs.Conditions.{forSingle, highest};
 ghost use Rattle.records.specs.Records.{ending, outside};
 ghost use Rattle.records.specs.RecordAnswers.{ruleRecord};
 use crate::Record;
+use bounds::above;
+use bounds::faulty_action;
 use numbers::wide;
-
-// The highest condition.
-const HIGHEST: u8 = 8;
 
 // Some byte is outside a to z.
 fn has_other(bytes: &[u8]) -> bool
     ensures { λ r. ⌜ r ≡ outside (now (bytes .entry)) ⌝ }
 {
     letters::first_other(bytes) < bytes.len()
-}
-
-// Some number of a rule is above its bound. S1 would end at `middle` of the body.
-fn above(condition: u8, action: u8, opens: u8, ending: usize, middle: usize, size: usize) -> bool
-    ensures { λ r. ⌜ r ≡ ltb highest condition || ltb 1 action || ltb 1 opens || ltb 12 ending || ltb size middle ⌝ }
-{
-    (condition > HIGHEST) | (action > 1) | (opens > 1) | (ending > 12) | (size < middle)
 }
 
 // S2 is too long, or some byte of S1 or S2 is no letter.
@@ -35,13 +26,6 @@ fn faulty_letters(s1: &[u8], s2: &[u8]) -> bool
     let first = has_other(s1);
     let second = has_other(s2);
     long | first | second
-}
-
-// A single letter is asked for with another condition, or with letters.
-fn faulty_action(condition: u8, action: u8, ending: usize, replacement: usize) -> bool
-    ensures { λ r. ⌜ r ≡ eqb action 1 && (not (forSingle condition) || not (eqb ending 0) || not (eqb replacement 0)) ⌝ }
-{
-    (action == 1) & (!((condition == 5) | (condition == 8)) | (ending != 0) | (replacement != 0))
 }
 
 // S1 of a rule's body, which is not judged again.

@@ -1,12 +1,15 @@
-// The shipped rules as a sheet, and the table of that sheet, as constants.
+// The shipped rules as a sheet, and the table of that sheet, as constants; and their run on a word.
 ghost use mathlib.Core.Path.{_≡_};
 ghost use Rattle.paper.specs.Shipped.{shipped};
+ghost use Rattle.paper.specs.Words.{outcome, Gives};
+ghost use Rattle.answers.specs.Answers.{numberOfRan, valueOfRan};
 ghost use Rattle.sheets.specs.SheetBytes.{sheetOf};
 ghost use Rattle.siblings.specs.Layout.{tableOf};
 
 pub mod sheet_bytes;
 pub mod table_numbers;
 
+use answers::Ran;
 use sheet_bytes::SHEET;
 use table_numbers::TABLE;
 
@@ -22,4 +25,13 @@ pub fn table() -> [u16; 648]
     ensures { λ r. ⌜ r ≡ tableOf shipped ⌝ }
 {
     TABLE
+}
+
+// The run of the two on a word: "The table made from the shipped sheet gives the stem of demand 2."
+pub fn run(word: &mut [u8]) -> Ran
+    ensures { λ r. ⌜ Gives (outcome (now (word .entry))) (numberOfRan r) (valueOfRan r) (now (word .exit)) ⌝ }
+{
+    let rules = sheet();
+    let nodes = table();
+    tables::run(&rules, &nodes, word)
 }

@@ -1,8 +1,9 @@
 -- What holds of every call on a text, by any word rule: it is refused exactly over 65,536 bytes, and the counts are those of the
 -- words; by one that never lengthens a word, the length stays, and every byte outside words stays where it is.
 use Prim.Native.Nat.{ℕ, _+_, _≤_, _<_}
-use mathlib.Core.Path.{_≡_, refl}
+use mathlib.Core.Path.{_≡_, refl, ap}
 use mathlib.Core.Bool.{false}
+use mathlib.Core.Logic.{_↔_}
 use mathlib.Core.List.{List}
 use native.Mathlib.Omega.{arith}
 use lib.Dec.{ltb}
@@ -49,10 +50,12 @@ module _ (rule : List ℕ → Reading) (text : List ℕ) where
 
   -- ## Every call
 
-  -- refusal 5 is given "exactly when" the text has more than 65,536 bytes
-  pub refused-exactly : textOutcome rule text .number ≡ 5 → 65536 < length text
-  refused-exactly =
-      either-way (λ o. o .number ≡ 5 → 65536 < length text) (λ long is. long) (λ short is. absurd (omega (arith, is)))
+  -- 5 exactly when "the text has more than 65,536 bytes"
+  pub answered-5 : (textOutcome rule text .number ≡ 5) ↔ (65536 < length text)
+  answered-5 = (
+    either-way (λ o. o .number ≡ 5 → 65536 < length text) (λ long is. long) (λ short is. absurd (omega (arith, is))),
+    λ long. ap (λ (o : Outcome). o .number) (refused-over long),
+  )
 
   pub number-within : textOutcome rule text .number ≤ 5
   number-within = either-way (λ o. o .number ≤ 5) (λ long. omega arith) (λ short. omega arith)
