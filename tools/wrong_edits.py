@@ -71,13 +71,20 @@ def edited(edit, file, text):
 
 def faults_of(edit):
     """What its file lacks, or has and should not have."""
-    in_code = all(file.startswith("src/") for file, _, _ in edit.changes)
+    files = [file for file, _, _ in edit.changes]
+    # a proof may be fitted to the changed code, so that it is refused at the fact that is wrong
+    in_code = any(file.startswith("src/") for file in files) and not any(file.startswith("specs/") for file in files)
     if edit.of_statement and edit.shown:
         return ["it changes a statement, and no code that an input could show"]
     if not edit.of_statement and not in_code:
-        return [f"it changes more than code, and its first line does not begin with {STATEMENT!r}"]
+        return [f"it changes more than code and its proof, and its first line does not begin with {STATEMENT!r}"]
     if not edit.of_statement and not edit.shown:
         return ["it has no line 'shown by:'"]
+    try:
+        for file in files:
+            edited(edit, file, (CRATES / edit.crate / file).read_text())
+    except (OSError, ValueError) as fault:
+        return [str(fault)]
     return []
 
 
