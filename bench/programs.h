@@ -20,4 +20,10 @@ struct counts plain_text(char *text, size_t length);
 int plain_stem_inlined(char *letters, int length);
 struct counts plain_text_inlined(char *text, size_t length);
 
+/* Porter's own program, where the hosts were built with it: whether it is there, which comes first; its stem of a word of small
+   letters; and a text run with it. It reads some rules otherwise than document 01 (W-208 has them), so its stems may differ. */
+int open_porters(void);
+int porters_stem(char *letters, int length);
+struct counts porters_text(char *text, size_t length);
+
 #endif

@@ -1,7 +1,7 @@
-/* Times the text run against the same work by hand: the proved one through its C entry, and a loop
-   over the plain rendering. The texts have 1, 4, 16 and 64 KiB. A round goes over 64 KiB in texts
+/* Times the text run against the same work by hand: the proved one through its C entry, a loop over
+   the plain rendering, and one over Porter's own program where the host was built with it. The texts have 1, 4, 16 and 64 KiB. A round goes over 64 KiB in texts
    of one size; so where the time of a text grows with its length and no faster, a byte takes the
-   same time at all sizes. First all programs have to give the same texts and counts.
+   same time at all sizes. First all programs but Porter's own have to give the same texts and counts.
 
    texts FILE ROUNDS    FILE has a word of small letters on each line */
 
@@ -31,9 +31,23 @@ static struct counts by_plain_inlined(uint8_t *bytes, size_t length)
     return plain_text_inlined((char *)bytes, length);
 }
 
-enum { PLAIN, PLAIN_INLINED, LUNARBUGLE, PROGRAMS };
+/* those that have to agree, and all */
+enum { PLAIN, PLAIN_INLINED, LUNARBUGLE, AGREEING };
+#ifdef PORTERS
+static struct counts by_porters(uint8_t *bytes, size_t length)
+{
+    return porters_text((char *)bytes, length);
+}
+enum { PORTERS_OWN = AGREEING, PROGRAMS };
+#else
+enum { PROGRAMS = AGREEING };
+#endif
 static struct counts (*const programs[PROGRAMS])(uint8_t *bytes, size_t length) = {
-    by_plain, by_plain_inlined, by_lunarbugle};
+    by_plain, by_plain_inlined, by_lunarbugle,
+#ifdef PORTERS
+    by_porters,
+#endif
+};
 
 #define SIZES 4
 static const size_t sizes[SIZES] = {1024, 4096, 16384, 65536};
@@ -72,7 +86,7 @@ static int agree(size_t size)
 {
     static uint8_t first[sizeof space];
     struct counts wanted = {0, 0};
-    for (int program = 0; program < PROGRAMS; program++) {
+    for (int program = 0; program < AGREEING; program++) {
         memcpy(space, text, sizeof text);
         struct counts counts = run_all(program, size);
         if (program == 0) {
@@ -101,6 +115,10 @@ int main(int count, char **arguments)
     static double times[SIZES][PROGRAMS][MOST_ROUNDS];
     size_t rounds = begin(count, arguments);
     make_text();
+#ifdef PORTERS
+    if (!open_porters())
+        return 1;
+#endif
     for (int size = 0; size < SIZES; size++)
         if (!agree(sizes[size]))
             return 1;
@@ -117,9 +135,13 @@ int main(int count, char **arguments)
         }
         double ours = median[size][LUNARBUGLE];
         printf("texts of %2zu KiB: %7.1f us, %5.2f ns a byte (%.2f times that of 1 KiB), "
-               "%.2f times plain C -O2, %.2f times -O3\n",
+               "%.2f times plain C -O2, %.2f times -O3",
                sizes[size] / 1024, ours * sizes[size] / 1000, ours, ours / median[0][LUNARBUGLE],
                ours / median[size][PLAIN], ours / median[size][PLAIN_INLINED]);
+#ifdef PORTERS
+        printf(", %.2f times Porter's own", ours / median[size][PORTERS_OWN]);
+#endif
+        printf("\n");
     }
     return 0;
 }
