@@ -3,7 +3,7 @@
 use Prim.Native.Nat.{ℕ, _≤_, _<_}
 use native.Mathlib.Omega.{arith}
 use mathlib.Core.Path.{_≡_, refl, sym, ap, _∙_}
-use mathlib.Core.Bool.{true, false, true≢false}
+use mathlib.Core.Bool.{Bool, true, false, true≢false}
 use mathlib.Core.List.{List, [], _∷_, map}
 use mathlib.Core.List.{List·Memᴰ, List·Memᴰ·head, List·Memᴰ·tail, List·Memᴰ·not-nil, List·Memᴰ·cases-cons}
 use mathlib.Core.Logic.{_↔_, _⊎_, inl, inr, ⊎-elim}
@@ -75,17 +75,24 @@ module _ (rule : List ℕ → Reading) (word : List ℕ) where
     longer : SmallWord word → rule word ≡ outgrown → number ≡ 4 → Way
     stemmed : SmallWord word → (stem : List ℕ) → rule word ≡ done stem → number ≡ 0 → Way
 
+  abbrev none-left : Bool
+  none-left = eqb (length word) 0
+
+  abbrev too-long : Bool
+  too-long = ltb 64 (length word)
+
   way : Way
   unfolding wrongLength readingOutcome
   way =
       by-test (wrongLength word)
       (λ is.
-      let said : WrongLength word = or-cases (eqb (length word) 0) (ltb 64 (length word)) is (λ none. inl (eqb-true _ _ none)) (λ long. inr (ltb-true _ _ long)) in
+      let said : WrongLength word
+      = or-cases none-left too-long is (λ none. inl (eqb-true _ _ none)) (λ long. inr (ltb-true _ _ long)) in
       wrong said (wrong-length said))
       (λ is.
-      let none = eqb-false (length word) 0 (neither-left (eqb (length word) 0) (ltb 64 (length word)) is) in
+      let none = eqb-false (length word) 0 (neither-left none-left too-long is) in
       let right : RightLength word
-      = record { least = omega (arith, none); most = ltb-false 64 (length word) (neither-right (eqb (length word) 0) (ltb 64 (length word)) is) } in
+      = record { least = omega (arith, none); most = ltb-false 64 (length word) (neither-right none-left too-long is) } in
       by-test (allSmall word)
       (λ all. by-reading right all (rule word) refl)
       (λ some. other right (other-in word some) (other-byte right some)))

@@ -31,7 +31,8 @@ pub checked-accepted : (sheet : List ℕ) (nodes groups : ℕ) → counting node
 unfolding checked groupsOf
 checked-accepted sheet nodes groups e = accepted-by (readSheet sheet) nodes groups e
 
-pub translation-refused : (sheet table : List ℕ) (place : ℕ) → faultyAt place ≡ checked sheet → Gives (translation sheet table) 3 place table
+pub translation-refused : (sheet table : List ℕ) (place : ℕ) → faultyAt place ≡ checked sheet
+    → Gives (translation sheet table) 3 place table
 unfolding checked translation translationOf
 translation-refused sheet table place e =
     rw (refused-by (readSheet sheet) place e) (record { number-is = refl; value-is = refl; place-is = refl })

@@ -29,7 +29,8 @@ use Rattle.answers.specs.declared.Translated.the-variants.{Nodes, Refused, Shor
 
 -- ## What the translation's answer says of the sheet
 
-refused-by : (found : Sheet) (own : List ℕ) {after : List ℕ} (place : ℕ) → Gives (translationOf found own) 3 place after → found ≡ refused place
+refused-by : (found : Sheet) (own : List ℕ) {after : List ℕ} (place : ℕ) → Gives (translationOf found own) 3 place after
+    → found ≡ refused place
 unfolding translationOf
 refused-by (refused other) own place gives = ap refused (sym (gives .value-is))
 refused-by (accepted groups) own place gives =
@@ -59,7 +60,8 @@ module _ (sheet own table word after : List ℕ) where
   abbrev Answered : Translated → Type 0
   Answered answer = Gives (translation sheet own) (numberOfTranslated answer) (valueOfTranslated answer) after
 
-  pub run-refused : {answer : Translated} (place : ℕ) → answer ≡ Refused place → Answered answer → Gives (runOutcome sheet table word) 3 place word
+  pub run-refused : {answer : Translated} (place : ℕ) → answer ≡ Refused place → Answered answer
+      → Gives (runOutcome sheet table word) 3 place word
   unfolding translation runOutcome runOf
   run-refused place is gives =
       rw (refused-by (readSheet sheet) own place (subst Answered is gives)) (record { number-is = refl; value-is = refl; place-is = refl })

@@ -27,7 +27,8 @@ add-result : tie.Need-add-result
 add-result c =
     let gives = c .before .before .before .before .stem .ensures in
     let bounds = outcome-bounds stem stem-never-lengthens (c .before .before .before .before .before .before .before .args .word .now) in
-    omega (arith, c .before .of-word .ensures .1, gives .value-is, bounds .value, c .before .of-word .ensures .0, gives .number-is, bounds .number)
+    let told = c .before .of-word .ensures in
+    omega (arith, told .1, gives .value-is, bounds .value, told .0, gives .number-is, bounds .number)
 
 same-length : tie.Need-same-length
 same-length c = search needs

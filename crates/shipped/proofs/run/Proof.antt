@@ -37,7 +37,8 @@ same-length c = search needs
 
 returns : tie.Need-returns
 returns c =
-    given (c .before .before .before .before .before .before .before .before .before .args .word .now) (c .before .before .before .before .before .before .before .sheet .ensures)
+    let made = c .before .before .before .before .before .before .before in
+    given (made .before .before .args .word .now) (made .sheet .ensures)
     (c .before .before .before .before .before .before .table .ensures) (c .before .before .run .ensures)
 
 pub run-spec : {M : Type 1} → statement M
