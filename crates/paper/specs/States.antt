@@ -86,6 +86,18 @@ pub state-more : (part : List ℕ) (letter : ℕ)
 unfolding state classAt
 state-more part letter = rw inward-more (state-in-more letter (inward part))
 
+-- the last letter is a vowel where the state is odd
+pub last-by-state : (part : List ℕ) → isVowel (classAt 0 part) ≡ eqb (state part % 2) 1
+unfolding state classAt
+last-by-state part = vowel-by-state (inward part)
+
+-- the state of a part without its last k letters
+abbrev pub stateAt : ℕ → List ℕ → ℕ
+stateAt k part = stateIn (drop k (inward part))
+
+pub stateAt-earlier : (k : ℕ) (part : List ℕ) (letter : ℕ) → stateAt (suc k) (part ++ letter ∷ []) ≡ stateAt k part
+stateAt-earlier k part letter = rw inward-more
+
 -- more letters never take away from it
 pub state-grows : (part more : List ℕ) → state part ≤ state (part ++ more)
 state-grows part [] = rw append-nil (le-refl (state part))
@@ -143,10 +155,6 @@ one-at part =
   where
     too-many : (n m : ℕ) → m ≡ n / 2 → (m ≡ 1 → ⊥) → 1 < n → 4 ≤ n
     too-many n m is other least = omega (arith, is, other, least)
-
--- the state of a part without its last k letters
-abbrev pub stateAt : ℕ → List ℕ → ℕ
-stateAt k part = stateIn (drop k (inward part))
 
 abbrev pub even : ℕ → Bool
 even n = not (eqb (n % 2) 1)
