@@ -5,7 +5,8 @@ ghost use mathlib.Core.List.{List, [], _∷_, _++_};
 ghost use lib.Dec.{ltb};
 ghost use Prim.Native.Nat.{ℕ, _+_, _<_, _≤_, _^_};
 ghost use Rattle.paper.specs.Letters.{vowelAfter, letterAt, measure as measureOf};
-ghost use Rattle.paper.specs.Conditions.{*v*, *d, *o, holds as holdsOf};
+ghost use Rattle.paper.specs.Conditions.{*d, *o, holds as holdsOf};
+ghost use Rattle.paper.specs.States.{state as stateOf};
 ghost use Rattle.paper.specs.Groups.{endsWith};
 ghost use Rattle.paper.specs.Words.{firstOther};
 ghost use Rattle.letters.specs.Scan.{classTable, beforeRow, Scanned};
@@ -72,14 +73,10 @@ const CLASS: [[bool; 26]; 2] = [
 
 // What a forward scan has found of the letters passed.
 struct Passed {
-    measure: usize,
-    // Whether some letter is a vowel.
-    found: bool,
-    // The class of the last letter, of the one before it and of the one before that: 1 for a consonant, 2 for a vowel, 0
-    // where there is no letter.
-    last: u8,
-    second: u8,
-    third: u8,
+    // Their state, and those of one and two letters fewer: twice the measure, and 1 more where the last letter is a vowel.
+    state: usize,
+    before: usize,
+    earlier: usize,
     // The row of CLASS for the next letter.
     row: usize,
 }
@@ -98,53 +95,53 @@ fn vowel_after(table: &[[bool; 26]; 2], row: usize, letter: u8) -> bool
     table[row][column]
 }
 
-// One letter more.
+// One letter more. The state is one more where the class is another.
 fn step(table: &[[bool; 26]; 2], s: Passed, letter: u8) -> Passed
-    requires { ⌜ (now table ≡ classTable) × ((s .row < 2) × (s .measure < 2 ^ 63)) ⌝ }
-    ensures { λ r. ⌜ r .measure ≤ s .measure + 1 ⌝ }
+    requires { ⌜ (now table ≡ classTable) × ((s .row < 2) × (s .state < 2 ^ 63)) ⌝ }
+    ensures { λ r. ⌜ r .state ≤ s .state + 1 ⌝ }
     ensures { λ r. ⌜ ((part : List ℕ) → Scanned part s → Scanned (part ++ letter ∷ []) r) ⌝ }
 {
-    let last = s.last;
+    let state = s.state;
     if vowel_after(table, s.row, letter) {
+        if state % 2 == 1 {
+            return Passed {
+                state,
+                before: state,
+                earlier: s.before,
+                row: 0,
+            };
+        }
         return Passed {
-            measure: s.measure,
-            found: true,
-            last: 2,
-            second: last,
-            third: s.second,
+            state: state + 1,
+            before: state,
+            earlier: s.before,
             row: 0,
         };
     }
-    if last == 2 {
+    if state % 2 == 1 {
         return Passed {
-            measure: s.measure + 1,
-            found: s.found,
-            last: 1,
-            second: last,
-            third: s.second,
+            state: state + 1,
+            before: state,
+            earlier: s.before,
             row: 1,
         };
     }
     Passed {
-        measure: s.measure,
-        found: s.found,
-        last: 1,
-        second: last,
-        third: s.second,
+        state,
+        before: state,
+        earlier: s.before,
         row: 1,
     }
 }
 
 // Before the first letter.
 fn nothing_passed() -> Passed
-    ensures { λ r. ⌜ (r .measure ≡ 0) × Scanned [] r ⌝ }
+    ensures { λ r. ⌜ (r .state ≡ 0) × Scanned [] r ⌝ }
 {
     Passed {
-        measure: 0,
-        found: false,
-        last: 0,
-        second: 0,
-        third: 0,
+        state: 0,
+        before: 0,
+        earlier: 0,
         row: 0,
     }
 }
@@ -162,33 +159,16 @@ fn scan(part: &[u8]) -> Passed
     s
 }
 
-// Whether the measure is above k. The scan stops where it is known.
+// Whether the state is above k. The scan stops where it is known.
 fn above(part: &[u8], k: usize) -> bool
-    ensures { λ r. ⌜ r ≡ ltb k (measureOf (now (part .entry))) ⌝ }
+    ensures { λ r. ⌜ r ≡ ltb k (stateOf (now (part .entry))) ⌝ }
 {
     let table = &CLASS;
     let mut s = nothing_passed();
     let mut i = 0;
     while i < part.len() {
         s = step(table, s, part[i]);
-        if k < s.measure {
-            return true;
-        }
-        i += 1;
-    }
-    false
-}
-
-// Whether some letter is a vowel. The scan stops at the first.
-fn has_vowel(part: &[u8]) -> bool
-    ensures { λ r. ⌜ r ≡ *v* (now (part .entry)) ⌝ }
-{
-    let table = &CLASS;
-    let mut s = nothing_passed();
-    let mut i = 0;
-    while i < part.len() {
-        s = step(table, s, part[i]);
-        if s.found {
+        if k < s.state {
             return true;
         }
         i += 1;
@@ -200,7 +180,7 @@ pub fn measure(part: &[u8]) -> usize
     ensures { λ r. ⌜ r ≡ measureOf (now (part .entry)) ⌝ }
 {
     let s = scan(part);
-    s.measure
+    s.state / 2
 }
 
 // The letter at `back` places before the last, or 0 where there is none.
@@ -219,7 +199,8 @@ fn double(part: &[u8], s: Passed) -> bool
     requires { ⌜ Scanned (now part) s ⌝ }
     ensures { λ r. ⌜ r ≡ *d (now (part .entry)) ⌝ }
 {
-    (letter_at(part, 0) == letter_at(part, 1)) & ((s.last == 1) & (s.second == 1))
+    (letter_at(part, 0) == letter_at(part, 1))
+        & ((1 < part.len()) & ((s.state % 2 != 1) & (s.before % 2 != 1)))
 }
 
 fn short(part: &[u8], s: Passed) -> bool
@@ -227,7 +208,7 @@ fn short(part: &[u8], s: Passed) -> bool
     ensures { λ r. ⌜ r ≡ *o (now (part .entry)) ⌝ }
 {
     let last = letter_at(part, 0);
-    ((s.third == 1) & ((s.second == 2) & (s.last == 1)))
+    ((2 < part.len()) & ((s.earlier % 2 != 1) & (!(s.before % 2 != 1) & (s.state % 2 != 1))))
         & !((last == 119) | ((last == 120) | (last == 121)))
 }
 
@@ -237,7 +218,7 @@ fn judged(condition: u8, part: &[u8], s: Passed) -> bool
     ensures { λ r. ⌜ r ≡ holdsOf condition (now (part .entry)) ⌝ }
 {
     let last = letter_at(part, 0);
-    let m = s.measure;
+    let m = s.state / 2;
     match condition {
         4 => (1 < m) & ((last == 115) | (last == 116)),
         5 => double(part, s) & !((last == 108) | ((last == 115) | (last == 122))),
@@ -248,15 +229,15 @@ fn judged(condition: u8, part: &[u8], s: Passed) -> bool
     }
 }
 
-// Whether the condition of this number holds of the part before an ending.
+// Whether the condition of this number holds of the part before an ending. Of the first three the state alone says it.
 pub fn holds(condition: u8, part: &[u8]) -> bool
     ensures { λ r. ⌜ r ≡ holdsOf condition (now (part .entry)) ⌝ }
 {
     match condition {
         0 => true,
-        1 => above(part, 0),
-        2 => above(part, 1),
-        3 => has_vowel(part),
+        1 => above(part, 1),
+        2 => above(part, 3),
+        3 => above(part, 0),
         _ => {
             // Condition 8 is asked of every word, and few end in l.
             if condition == 8 {

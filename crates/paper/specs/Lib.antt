@@ -16,6 +16,7 @@ pub mod TestLaws
 pub mod ListLaws
 -- Laws of letters and measure, of reading a group, of going through groups, and of a call on a word, over any rule list
 pub mod LettersLaws
+pub mod States
 pub mod GroupsLaws
 pub mod ReadingLaws
 pub mod LongerFirst

@@ -10,15 +10,17 @@ use lib.ListN.{length, drop, length-drop}
 use borrow.Author.Tests.{ltb-true, ltb-false}
 use Rattle.paper.specs.Groups.{Rule, Gate, always, if-opened, Group}
 use Rattle.paper.specs.ListLaws.{empty}
-use Rattle.paper.specs.TestLaws.{apart, by-test}
+use Rattle.paper.specs.TestLaws.{apart, by-test, neither-left}
 use Rattle.records.specs.Framing.{body, recordLength, after, nextPlace}
 use Rattle.records.specs.FramingLaws.{length-after, beyond}
-use Rattle.records.specs.Records.{gate, rule}
+use Rattle.records.specs.Records.{gate, rule, faultyAlone}
 use Rattle.records.specs.RecordAnswers.{recordAt}
+use Rattle.passing.specs.Passed.{passedAt}
+use Rattle.passing.specs.PassedLaws.{passed-is}
 use Rattle.records.specs.RecordLaws.{EndHere}
 use Rattle.records.specs.RecordPlaces.{GroupAt, RuleFacts, RuleAt, record-here}
 use Rattle.records.specs.declared.Record.the-variants.{Group as GroupRecord, Rule as RuleRecord, End as EndRecord, Faulty as FaultyRecord}
-use Rattle.sheets.specs.Sheets.{misplacedGroup, misplacedRule, faulty, Rest, faulty-at, holding, ruleThen, groupThen}
+use Rattle.sheets.specs.Sheets.{misplacedGroup, misplacedRule, misplaced, faulty, Rest, faulty-at, holding, ruleThen, groupThen}
 use Rattle.sheets.specs.Sheets.{readRest, restAt, Sheet, refused, accepted, whole, readSheet}
 use Rattle.sheets.specs.SheetSteps.{fault-alone, group-fault, rule-fault, few-groups, few-rules, faulty-empty, enough}
 use Rattle.sheets.specs.SheetSteps.{fault-step, group-step, rule-step, end-step}
@@ -150,12 +152,18 @@ module _ {sheet : List ℕ} {at groups rules : ℕ} {list : List Rule} {more : L
       let none : length (drop at sheet) ≤ 0 = omega (arith, length-drop at sheet) in
       absurd (false≢true (sym never-faulty ∙ faulty-empty groups rules (drop at sheet) none)))
 
-  pub never-alone : recordAt sheet at ≡ FaultyRecord → ⊥
-  never-alone e = false≢true (sym never-faulty ∙ fault-alone groups rules (drop at sheet) (record-here sheet at FaultyRecord e))
+  -- so it need not be judged again
+  read-again : passedAt sheet at ≡ recordAt sheet at
+  unfolding faulty
+  read-again = sym (passed-is sheet at (neither-left (faultyAlone (drop at sheet)) (misplaced groups rules (drop at sheet)) never-faulty))
 
-  pub group-next : {number next : ℕ} → recordAt sheet at ≡ GroupRecord number next → GroupNext here number next
+  pub never-alone : passedAt sheet at ≡ FaultyRecord → ⊥
+  never-alone e =
+      false≢true (sym never-faulty ∙ fault-alone groups rules (drop at sheet) (record-here sheet at FaultyRecord (sym read-again ∙ e)))
+
+  pub group-next : {number next : ℕ} → passedAt sheet at ≡ GroupRecord number next → GroupNext here number next
   group-next {number} {next} e =
-      let is = record-here sheet at (GroupRecord number next) e in
+      let is = record-here sheet at (GroupRecord number next) (sym read-again ∙ e) in
       let placed = sym (group-fault groups rules (is .here)) ∙ never-faulty in
       let found =
       after-group (gate (body (drop at sheet))) (restAt sheet next (groups + 1) rules) list more
@@ -173,10 +181,10 @@ module _ {sheet : List ℕ} {at groups rules : ℕ} {list : List Rule} {more : L
         few = few-groups groups (body (drop at sheet)) placed;
       }
 
-  pub rule-next : {c a o start middle next : ℕ} → recordAt sheet at ≡ RuleRecord c a o start middle next
+  pub rule-next : {c a o start middle next : ℕ} → passedAt sheet at ≡ RuleRecord c a o start middle next
       → RuleNext here c a o start middle next
   rule-next {c} {a} {o} {start} {middle} {next} e =
-      let is = record-here sheet at (RuleRecord c a o start middle next) e in
+      let is = record-here sheet at (RuleRecord c a o start middle next) (sym read-again ∙ e) in
       let placed = sym (rule-fault groups rules (is .here)) ∙ never-faulty in
       let found =
       after-rule (rule (body (drop at sheet))) (restAt sheet next groups (rules + 1)) list more
@@ -191,5 +199,5 @@ module _ {sheet : List ℕ} {at groups rules : ℕ} {list : List Rule} {more : L
         few = few-rules groups rules placed;
       }
 
-  pub end-next : recordAt sheet at ≡ EndRecord → (list ≡ []) × (more ≡ [])
-  end-next e = let ended = sym (rest-end sheet at groups rules (record-here sheet at EndRecord e)) ∙ here .rest-is in (cc, cc)
+  pub end-next : passedAt sheet at ≡ EndRecord → (list ≡ []) × (more ≡ [])
+  end-next e = let ended = sym (rest-end sheet at groups rules (record-here sheet at EndRecord (sym read-again ∙ e))) ∙ here .rest-is in (cc, cc)

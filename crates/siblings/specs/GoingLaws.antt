@@ -9,7 +9,7 @@ use lib.ListN.{length, take, drop, replicate}
 use Rattle.paper.specs.Letters.{inward}
 use Rattle.paper.specs.Groups.{Rule, Gate, Group}
 use Rattle.paper.specs.Nodes.{nodeCount}
-use Rattle.records.specs.RecordAnswers.{recordAt}
+use Rattle.passing.specs.Passed.{passedAt}
 use Rattle.records.specs.declared.Record.the-variants.{End as EndRecord}
 use Rattle.sheets.specs.NodeBounds.{at-most-1552}
 use Rattle.sheets.specs.WriteBack.{write-back}
@@ -104,7 +104,7 @@ module _ {sheet table : List ℕ} {at root next rules count : ℕ} (state : Goin
         room = stepped .1 ∙ state .room;
       }
 
-  pub going-end : recordAt sheet at ≡ EndRecord → table ≡ tableOf (groupsOf sheet)
+  pub going-end : passedAt sheet at ≡ EndRecord → table ≡ tableOf (groupsOf sheet)
   going-end here =
       let over = end-next (state .holds) here in
       midway-end (groupsOf sheet) table count rules (endsLeft root next (state .list) (state .more))

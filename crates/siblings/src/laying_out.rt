@@ -6,8 +6,8 @@ ghost use Rattle.paper.specs.Nodes.{nodeCount};
 ghost use Rattle.siblings.specs.Layout.{tableOf};
 ghost use Rattle.sheets.specs.Accepted.{groupsOf, Accepted};
 use crate::layings::insert;
+use passing::pass;
 use records::Record;
-use records::reader::draw;
 
 // Clears all numbers.
 fn clear(table: &mut [u16])
@@ -33,7 +33,7 @@ pub(crate) fn lay(sheet: &[u8], table: &mut [u16], groups: usize)
     let mut rules = 0;
     let mut count = groups;
     while at < sheet.len() {
-        let found = draw(sheet, at);
+        let found = pass(sheet, at);
         match found {
             Record::Group { gate: _, next } => {
                 root = roots;

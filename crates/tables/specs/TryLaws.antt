@@ -11,7 +11,7 @@ use lib.Dec.{eqb, leb}
 use lib.ListN.{length, take, drop}
 use Rattle.paper.specs.Conditions.{holds}
 use Rattle.paper.specs.Groups.{Rule, Group, before}
-use Rattle.records.specs.RecordAnswers.{recordAt}
+use Rattle.passing.specs.Passed.{passedAt}
 use Rattle.records.specs.RecordPlaces.{RuleFacts}
 use Rattle.records.specs.declared.Record.the-variants.{Group as GroupRecord, End as EndRecord}
 use Rattle.sheets.specs.Sheets.{Rest, faulty-at, holding, restAt}
@@ -92,10 +92,10 @@ module _ {nodes : Nodes} {root found : ℕ} {word sheet : List ℕ} {groups star
   none-picked : state .list ≡ [] → answer ≡ none
   none-picked e = sym (state .decides) ∙ picked-none nodes root found word (rules + 1) (state .list) e
 
-  pub trying-group : {number next : ℕ} → recordAt sheet place ≡ GroupRecord number next → answer ≡ none
+  pub trying-group : {number next : ℕ} → passedAt sheet place ≡ GroupRecord number next → answer ≡ none
   trying-group e = none-picked (group-next (state .holds-here) e .none-before)
 
-  pub trying-end : recordAt sheet place ≡ EndRecord → answer ≡ none
+  pub trying-end : passedAt sheet place ≡ EndRecord → answer ≡ none
   trying-end e = none-picked (end-next (state .holds-here) e .0)
 
   module _ {c a o start-of middle after : ℕ} (found-rule : RuleNext (state .holds-here) c a o start-of middle after) where

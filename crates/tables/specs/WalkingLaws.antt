@@ -10,7 +10,7 @@ use lib.ListN.{length, take, length-take}
 use lib.Seq.{take-length}
 use Rattle.paper.specs.Groups.{Rule, Gate, always, if-opened, Group, runs, Turn, steps, done, outgrown, reading, through}
 use Rattle.paper.specs.TurnLaws.{turn-skipped, turn-run, turn-outgrown}
-use Rattle.records.specs.RecordAnswers.{recordAt}
+use Rattle.passing.specs.Passed.{passedAt}
 use Rattle.records.specs.declared.Record.the-variants.{End as EndRecord}
 use Rattle.sheets.specs.Sheets.{restAt}
 use Rattle.walks.specs.Walk.{Nodes, walked, walkGroup, walkTurns, walkWord}
@@ -117,7 +117,7 @@ module _ {nodes : Nodes} {sheet first : List ℕ} {at next rules : ℕ} {opened 
         decides = rw same-number (state .decides);
       }
 
-  pub walking-end : recordAt sheet at ≡ EndRecord → done word ≡ walkWord nodes (groupsOf sheet) first
+  pub walking-end : passedAt sheet at ≡ EndRecord → done word ≡ walkWord nodes (groupsOf sheet) first
   unfolding walkTurns steps reading
   walking-end here =
       let over = end-next (state .holds) here in

@@ -9,10 +9,10 @@ ghost use Rattle.walks.specs.Walk.{walkGroup, walkWord};
 ghost use Rattle.tables.specs.WalkAnswers.{WalkedAs};
 ghost use Rattle.tables.specs.GroupStepLaws.{Stepped};
 ghost use Rattle.tables.specs.TryLaws.{Readable, PickedAs, picked, rulesOf, obeys as obeysOf};
+use passing::pass;
 use paths::deepest;
 use paths::held_at;
 use records::Record;
-use records::reader::draw;
 
 // What is left of a number after another is taken away, or 0.
 fn less(one: usize, other: usize) -> usize
@@ -87,7 +87,7 @@ fn tried_at(
     let mut place = at;
     let mut number = rules;
     while place < sheet.len() {
-        let record = draw(sheet, place);
+        let record = pass(sheet, place);
         match record {
             Record::Group { gate: _, next: _ } => return nothing(),
             Record::Rule {
@@ -213,7 +213,7 @@ pub(crate) fn walk_groups(sheet: &[u8], table: &[u16], word: &mut [u8]) -> Walke
     let mut opened = false;
     let mut size = word.len();
     while at < sheet.len() {
-        let found = draw(sheet, at);
+        let found = pass(sheet, at);
         match found {
             Record::Group { gate, next } => {
                 let root = groups;

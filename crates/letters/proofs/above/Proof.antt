@@ -1,18 +1,19 @@
--- `letters::above` meets its contract: letters that follow never take away from the measure.
+-- `letters::above` meets its contract: letters that follow never take away from the state.
 use Prim.Native.Nat.{_+_, _-_, _≤_}
 use borrow.Author.Needs.{needs}
 use borrow.Author.Tests.{lt-ltb, le-ltb}
 use native.Mathlib.Omega.{arith}
 use mathlib.Core.Path.{refl, sym}
 use lib.ListN.{length}
-use Rattle.paper.specs.Letters.{letters, among, vowelAfter, measure as measureOf}
+use Rattle.paper.specs.Letters.{letters, among, vowelAfter}
+use Rattle.paper.specs.States.{state as stateOf}
 use Rattle.letters.specs.Scan.{alphabet, classTable}
-use Rattle.letters.proofs.Steps.{Passing, step-asks, step-gives, all-passed, measure-passed}
+use Rattle.letters.proofs.Steps.{Passing, step-asks, step-gives, all-passed, state-passed}
 use Rattle.letters.proofs.above.Statement.{statement}
 use Rattle.letters.proofs.above.Tie as tie
 
 abbrev Inv-loop : tie.InvT-loop
-Inv-loop part k table s₀ i₀ s i = Passing part table s i × (s .measure ≤ k)
+Inv-loop part k table s₀ i₀ s i = Passing part table s i × (s .state ≤ k)
 
 abbrev μ-loop : tie.MeasureT-loop
 μ-loop part k table s₀ i₀ s i = length part - i
@@ -42,8 +43,8 @@ returns c =
     let part = c .before .before .before .before .before .before .before .before .before .args .part .now in
     let passing = step-gives part _ (at .s) (ran .result) (at .i) (c .before .before .before .before .loop-test .taken) (at .inv .0)
     (ran .ensures .0) (ran .ensures .1) in
-    let more = measure-passed part _ (ran .result) (at .i + 1) passing in
-    sym (lt-ltb (c .before .before .before .before .before .before .before .before .before .args .k) (measureOf
+    let more = state-passed part _ (ran .result) (at .i + 1) passing in
+    sym (lt-ltb (c .before .before .before .before .before .before .before .before .before .args .k) (stateOf
     (c .before .before .before .before .before .before .before .before .before .args .part .now)) (omega
     (arith, c .if1 .taken, more)))
 
@@ -66,8 +67,8 @@ returns-2 : tie.Need-returns-2 Inv-loop μ-loop
 returns-2 c =
     let at = c .before .loop in
     let all = all-passed (c .before .before .before .before .before .args .part .now) _ (at .s) (at .i) (c .loop-test .left) (at .inv .0) in
-    sym (le-ltb (c .before .before .before .before .before .args .k) (measureOf
-    (c .before .before .before .before .before .args .part .now)) (omega (arith, all .measure, at .inv .1)))
+    sym (le-ltb (c .before .before .before .before .before .args .k) (stateOf
+    (c .before .before .before .before .before .args .part .now)) (omega (arith, all .state, at .inv .1)))
 
 pub above-spec : {M : Type 1} → statement M
 above-spec =

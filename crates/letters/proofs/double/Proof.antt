@@ -1,7 +1,6 @@
--- `letters::double` meets its contract: the scan's class numbers are the classes.
+-- `letters::double` meets its contract: the scan's states say the classes.
 use borrow.Author.Needs.{needs}
-use Rattle.paper.specs.Conditions.{*d}
-use Rattle.letters.proofs.Steps.{consonant-number}
+use Rattle.paper.specs.States.{state, double-by-states}
 use Rattle.letters.proofs.double.Statement.{statement}
 use Rattle.letters.proofs.double.Tie as tie
 
@@ -12,16 +11,15 @@ letter-at-requires-2 : tie.Need-letter-at-requires-2
 letter-at-requires-2 c κs = search needs
 
 returns : tie.Need-returns
-unfolding *d
+unfolding state
 returns c =
     let start = c .before .before .before .before .before in
-    let part = start .args .part .now in
-    simp (
+    rw (
+      double-by-states (start .args .part .now),
       c .before .before .before .letter-at .ensures,
       c .before .before .letter-at2 .ensures,
-      start .pre .last,
-      start .pre .second,
-      consonant-number,
+      start .pre .state,
+      start .pre .before,
     )
 
 pub double-spec : {M : Type 1} → statement M

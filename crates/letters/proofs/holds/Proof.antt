@@ -1,8 +1,10 @@
 -- `letters::holds` meets its contract; without a last letter l condition 8 does not hold.
 use borrow.Author.Needs.{needs}
 use borrow.Author.Tests.{ne-eqb}
+use mathlib.Core.Path.{sym, _∙_}
 use mathlib.Core.Bool.{and-false}
 use Rattle.paper.specs.Conditions.{lastIs, conditions, holds}
+use Rattle.paper.specs.States.{above-from, vowel-from-1}
 use Rattle.letters.proofs.holds.Statement.{statement}
 use Rattle.letters.proofs.holds.Tie as tie
 
@@ -12,8 +14,8 @@ above-requires c κs = search needs
 above-requires-2 : tie.Need-above-requires-2
 above-requires-2 c κs = search needs
 
-has-vowel-requires : tie.Need-has-vowel-requires
-has-vowel-requires c κs = search needs
+above-requires-3 : tie.Need-above-requires-3
+above-requires-3 c κs = search needs
 
 letter-at-requires : tie.Need-letter-at-requires
 letter-at-requires c κs = search needs
@@ -36,15 +38,15 @@ returns-2 c = rw (c .match .keys1)
 
 returns-3 : tie.Need-returns-3
 unfolding holds conditions lastIs
-returns-3 c = rw (c .before .match .keys2) (c .above .ensures)
+returns-3 c = rw (c .before .match .keys2) (c .above .ensures ∙ sym (above-from 0 _))
 
 returns-4 : tie.Need-returns-4
 unfolding holds conditions lastIs
-returns-4 c = rw (c .before .match .keys3) (c .above2 .ensures)
+returns-4 c = rw (c .before .match .keys3) (c .above2 .ensures ∙ sym (above-from 1 _))
 
 returns-5 : tie.Need-returns-5
 unfolding holds conditions lastIs
-returns-5 c = rw (c .before .match .keys4) (c .has-vowel .ensures)
+returns-5 c = rw (c .before .match .keys4) (c .above3 .ensures ∙ sym (vowel-from-1 _))
 
 returns-6 : tie.Need-returns-6
 returns-6 c = search needs
@@ -52,5 +54,5 @@ returns-6 c = search needs
 pub holds-spec : {M : Type 1} → statement M
 holds-spec =
     tie.close
-    (tie.spec above-requires above-requires-2 has-vowel-requires letter-at-requires returns scan-requires judged-requires returns-2
+    (tie.spec above-requires above-requires-2 above-requires-3 letter-at-requires returns scan-requires judged-requires returns-2
     returns-3 returns-4 returns-5 returns-6)

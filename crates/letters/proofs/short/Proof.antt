@@ -1,9 +1,8 @@
--- `letters::short` meets its contract: the scan's class numbers are the classes.
+-- `letters::short` meets its contract: the scan's states say the classes.
 use borrow.Author.Needs.{needs}
 use mathlib.Core.Bool.{or-false}
 use Rattle.paper.specs.Letters.{letters, among}
-use Rattle.paper.specs.Conditions.{*o}
-use Rattle.letters.proofs.Steps.{consonant-number, vowel-number}
+use Rattle.paper.specs.States.{state, short-by-states}
 use Rattle.letters.proofs.short.Statement.{statement}
 use Rattle.letters.proofs.short.Tie as tie
 
@@ -11,16 +10,15 @@ letter-at-requires : tie.Need-letter-at-requires
 letter-at-requires c κs = search needs
 
 returns : tie.Need-returns
-unfolding *o among letters
+unfolding state among letters
 returns c =
     let start = c .before .before .before .before .before in
-    simp (
+    rw (
+      short-by-states (start .args .part .now),
       c .before .before .before .letter-at .ensures,
-      start .pre .last,
-      start .pre .second,
-      start .pre .third,
-      consonant-number,
-      vowel-number,
+      start .pre .state,
+      start .pre .before,
+      start .pre .earlier,
       or-false,
     )
 

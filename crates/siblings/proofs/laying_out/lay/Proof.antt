@@ -45,19 +45,19 @@ loop-holds c =
           (omega (arith, fits, long)) (long ∙ start .pre .1 .1 .1),
     )
 
-draw-requires : tie.Need-draw-requires Inv-loop μ-loop
-draw-requires c κs = tt
+pass-requires : tie.Need-pass-requires Inv-loop μ-loop
+pass-requires c κs = tt
 
 enum-known-found : tie.Need-enum-known-found Inv-loop μ-loop
 enum-known-found c = search needs
 
--- a group was drawn, and this stands after it
+-- a group was passed, and this stands after it
 group-of : (c : tie.After-known-told Inv-loop μ-loop)
     → (let given = c .before .found .given .0 in
     GroupNext (c .before .before .before .before .before .loop .inv .5 .holds) (given .0) (given .1 .0))
 group-of c =
     group-next (c .before .before .before .before .before .loop .inv .5 .holds)
-    (sym (c .before .before .before .draw .ensures) ∙ c .before .found .given .1)
+    (sym (c .before .before .before .pass .ensures) ∙ c .before .found .given .1)
 
 add-roots : tie.Need-add-roots Inv-loop μ-loop
 add-roots c = let few = group-of c .few in omega arith
@@ -74,14 +74,14 @@ loop-again c =
 enum-known-found-2 : tie.Need-enum-known-found-2 Inv-loop μ-loop
 enum-known-found-2 c = search needs
 
--- a rule was drawn, and this stands after it
+-- a rule was passed, and this stands after it
 rule-of : (c : tie.After-known-told2 Inv-loop μ-loop)
     → (let given = c .before .found2 .given .0 in
     RuleNext (c .before .before .before .before .before .loop .inv .5 .holds) (given .0) (given .1 .0) (given .1 .1 .0)
     (given .1 .1 .1 .0) (given .1 .1 .1 .1 .0) (given .1 .1 .1 .1 .1 .0))
 rule-of c =
     rule-next (c .before .before .before .before .before .loop .inv .5 .holds)
-    (sym (c .before .before .before .draw .ensures) ∙ c .before .found2 .given .1)
+    (sym (c .before .before .before .pass .ensures) ∙ c .before .found2 .given .1)
 
 add-rules : tie.Need-add-rules Inv-loop μ-loop
 add-rules c = let few = rule-of c .few in omega arith
@@ -130,7 +130,7 @@ same-length : tie.Need-same-length Inv-loop μ-loop
 same-length c = same-room (c .before .before .before .before)
 
 returns : tie.Need-returns Inv-loop μ-loop
-returns c = going-end (c .before .before .before .before .loop .inv .5) (sym (c .before .before .draw .ensures) ∙ c .enum-told .given .1)
+returns c = going-end (c .before .before .before .before .loop .inv .5) (sym (c .before .before .pass .ensures) ∙ c .enum-told .given .1)
 
 enum-told-2 : tie.Need-enum-told-2 Inv-loop μ-loop
 enum-told-2 c = search needs
@@ -142,7 +142,7 @@ returns-2 : tie.Need-returns-2 Inv-loop μ-loop
 returns-2 c =
     absurd
     (never-alone (c .before .before .before .before .loop .inv .5 .holds)
-    (sym (c .before .before .draw .ensures) ∙ c .enum-told2 .given .1))
+    (sym (c .before .before .pass .ensures) ∙ c .enum-told2 .given .1))
 
 same-length-3 : tie.Need-same-length-3 Inv-loop μ-loop
 same-length-3 c = same-room (c .before)
@@ -154,6 +154,6 @@ pub lay-spec : {M : Type 1} → statement M
 lay-spec =
     tie.close
     (tie.spec
-    Inv-loop μ-loop clear-requires loop-holds draw-requires enum-known-found add-roots loop-less loop-again enum-known-found-2
+    Inv-loop μ-loop clear-requires loop-holds pass-requires enum-known-found add-roots loop-less loop-again enum-known-found-2
     add-rules sub-insert part-insert-start part-insert-end insert-requires loop-less-2 loop-again-2 enum-told same-length returns
     enum-told-2 same-length-2 returns-2 same-length-3 returns-3)

@@ -26,8 +26,8 @@ loop-holds c =
       trying-start (nodesIn (a .table .now)) (a .root) (a .found) (a .word .now) (a .sheet .now) (a .groups) (a .at) (a .rules) (pre .0),
     )
 
-draw-requires : tie.Need-draw-requires Inv-loop μ-loop
-draw-requires c κs = tt
+pass-requires : tie.Need-pass-requires Inv-loop μ-loop
+pass-requires c κs = tt
 
 enum-told : tie.Need-enum-told Inv-loop μ-loop
 enum-told c = search needs
@@ -38,20 +38,20 @@ nothing-requires c κs = tt
 returns : tie.Need-returns Inv-loop μ-loop
 returns c =
     rw (trying-group (c .before .before .before .before .before .loop .inv .2)
-    (sym (c .before .before .before .draw .ensures) ∙ c .before .enum-told .given .1))
+    (sym (c .before .before .before .pass .ensures) ∙ c .before .enum-told .given .1))
     (c .nothing .ensures)
 
 enum-known-record : tie.Need-enum-known-record Inv-loop μ-loop
 enum-known-record c = search needs
 
--- a rule was drawn, and this stands after it
+-- a rule was passed, and this stands after it
 rule-of : (c : tie.After-known-told Inv-loop μ-loop)
     → (let given = c .before .record .given .0 in
     RuleNext (c .before .before .before .before .before .loop .inv .2 .holds-here) (given .0) (given .1 .0) (given .1 .1 .0)
     (given .1 .1 .1 .0) (given .1 .1 .1 .1 .0) (given .1 .1 .1 .1 .1 .0))
 rule-of c =
     rule-next (c .before .before .before .before .before .loop .inv .2 .holds-here)
-    (sym (c .before .before .before .draw .ensures) ∙ c .before .record .given .1)
+    (sym (c .before .before .before .pass .ensures) ∙ c .before .record .given .1)
 
 add-number : tie.Need-add-number Inv-loop μ-loop
 add-number c = let few = rule-of c .few in omega arith
@@ -93,7 +93,7 @@ nothing-requires-2 c κs = tt
 returns-3 : tie.Need-returns-3 Inv-loop μ-loop
 returns-3 c =
     rw (trying-end (c .before .before .before .before .before .loop .inv .2)
-    (sym (c .before .before .before .draw .ensures) ∙ c .before .enum-told2 .given .1))
+    (sym (c .before .before .before .pass .ensures) ∙ c .before .enum-told2 .given .1))
     (c .nothing2 .ensures)
 
 enum-told-3 : tie.Need-enum-told-3 Inv-loop μ-loop
@@ -106,7 +106,7 @@ returns-4 : tie.Need-returns-4 Inv-loop μ-loop
 returns-4 c =
     absurd
     (never-alone (c .before .before .before .before .before .loop .inv .2 .holds-here)
-    (sym (c .before .before .before .draw .ensures) ∙ c .before .enum-told3 .given .1))
+    (sym (c .before .before .before .pass .ensures) ∙ c .before .enum-told3 .given .1))
 
 nothing-requires-4 : tie.Need-nothing-requires-4 Inv-loop μ-loop
 nothing-requires-4 c κs = tt
@@ -118,6 +118,6 @@ pub tried-at-spec : {M : Type 1} → statement M
 tried-at-spec =
     tie.close
     (tie.spec
-    Inv-loop μ-loop loop-holds draw-requires enum-told nothing-requires returns enum-known-record add-number sub-obeys
+    Inv-loop μ-loop loop-holds pass-requires enum-told nothing-requires returns enum-known-record add-number sub-obeys
     part-obeys-start part-obeys-end obeys-requires returns-2 loop-less loop-again enum-told-2 nothing-requires-2 returns-3
     enum-told-3 nothing-requires-3 returns-4 nothing-requires-4 returns-5)

@@ -36,19 +36,19 @@ loop-holds c =
       walking-start (nodesIn (a .table .now)) (a .sheet .now) (a .word .now) (c .before .before .before .pre),
     )
 
-draw-requires : tie.Need-draw-requires Inv-loop μ-loop
-draw-requires c κs = tt
+pass-requires : tie.Need-pass-requires Inv-loop μ-loop
+pass-requires c κs = tt
 
 enum-known-found : tie.Need-enum-known-found Inv-loop μ-loop
 enum-known-found c = search needs
 
--- a group was drawn, and this stands after it
+-- a group was passed, and this stands after it
 group-of : (c : tie.After-known-told Inv-loop μ-loop)
     → (let given = c .before .found .given .0 in
     GroupNext (c .before .before .before .before .before .loop .inv .5 .holds) (given .0) (given .1 .0))
 group-of c =
     group-next (c .before .before .before .before .before .loop .inv .5 .holds)
-    (sym (c .before .before .before .draw .ensures) ∙ c .before .found .given .1)
+    (sym (c .before .before .before .pass .ensures) ∙ c .before .found .given .1)
 
 add-groups : tie.Need-add-groups Inv-loop μ-loop
 add-groups c = let few = group-of c .few in omega arith
@@ -105,14 +105,14 @@ loop-again-2 c =
 enum-known-found-2 : tie.Need-enum-known-found-2 Inv-loop μ-loop
 enum-known-found-2 c = search needs
 
--- a rule was drawn, and this stands after it
+-- a rule was passed, and this stands after it
 rule-of : (c : tie.After-known-told2 Inv-loop μ-loop)
     → (let given = c .before .found2 .given .0 in
     RuleNext (c .before .before .before .before .before .loop .inv .5 .holds) (given .0) (given .1 .0) (given .1 .1 .0)
     (given .1 .1 .1 .0) (given .1 .1 .1 .1 .0) (given .1 .1 .1 .1 .1 .0))
 rule-of c =
     rule-next (c .before .before .before .before .before .loop .inv .5 .holds)
-    (sym (c .before .before .before .draw .ensures) ∙ c .before .found2 .given .1)
+    (sym (c .before .before .before .pass .ensures) ∙ c .before .found2 .given .1)
 
 add-rules : tie.Need-add-rules Inv-loop μ-loop
 add-rules c = let few = rule-of c .few in omega arith
@@ -135,7 +135,7 @@ same-length-2 c = c .before .before .before .before .loop .inv .4
 returns-2 : tie.Need-returns-2 Inv-loop μ-loop
 returns-2 c =
     let turn = c .before .before .before .before .loop in
-    (walking-end (turn .inv .5) (sym (c .before .before .draw .ensures) ∙ c .enum-told .given .1), turn .inv .3)
+    (walking-end (turn .inv .5) (sym (c .before .before .pass .ensures) ∙ c .enum-told .given .1), turn .inv .3)
 
 enum-told-2 : tie.Need-enum-told-2 Inv-loop μ-loop
 enum-told-2 c = search needs
@@ -147,7 +147,7 @@ returns-3 : tie.Need-returns-3 Inv-loop μ-loop
 returns-3 c =
     absurd
     (never-alone (c .before .before .before .before .loop .inv .5 .holds)
-    (sym (c .before .before .draw .ensures) ∙ c .enum-told2 .given .1))
+    (sym (c .before .before .pass .ensures) ∙ c .enum-told2 .given .1))
 
 same-length-4 : tie.Need-same-length-4 Inv-loop μ-loop
 same-length-4 c = c .before .loop .inv .4
@@ -159,6 +159,6 @@ pub walk-groups-spec : {M : Type 1} → statement M
 walk-groups-spec =
     tie.close
     (tie.spec
-    Inv-loop μ-loop loop-holds draw-requires enum-known-found add-groups walk-group-requires same-length returns loop-less
+    Inv-loop μ-loop loop-holds pass-requires enum-known-found add-groups walk-group-requires same-length returns loop-less
     loop-again loop-less-2 loop-again-2 enum-known-found-2 add-rules loop-less-3 loop-again-3 enum-told same-length-2 returns-2
     enum-told-2 same-length-3 returns-3 same-length-4 returns-4)
