@@ -11,16 +11,11 @@ use lib.ListN.{length, length-append, length-take}
 use borrow.Author.Tests.{le-leb, leb-true}
 use Rattle.paper.specs.Groups.{Action, replace, single-letter, written, Rule, Gate, always, if-opened, Group}
 use Rattle.paper.specs.Groups.{before, obeyed, act, runs, readTurn, result, opensNext, Step, steps, Reading, done, reading}
-use Rattle.paper.specs.TestLaws.{and-parts}
+use Rattle.paper.specs.TestLaws.{one-if, and-parts}
 use Rattle.paper.specs.GroupsLaws.{before-length, ending-short}
 use Rattle.paper.specs.ReadingLaws.{every, every-in, obeyed-first}
 use Rattle.paper.specs.Shipped.{shipped}
 use Rattle.paper.specs.Words.{readWord, stem}
-
--- 1 where the next group is opened
-abbrev pub one-if : Bool → ℕ
-one-if true = 1
-one-if false = 0
 
 -- a rule with so much room to add takes away at least what it writes, and one letter more where it opens the next group
 unfoldable pub tame-rule : ℕ → Rule → Bool

@@ -9,16 +9,12 @@ use mathlib.Core.Bool.{Bool, true, false, cond, not, _&&_, _||_, and-false, Bool
 use mathlib.Core.List.{List, [], _∷_, _++_, reverse, append-nil, append-assoc}
 use lib.Dec.{eqb, ltb}
 use lib.ListN.{length, drop, length-drop, length-reverse}
-use borrow.Author.Tests.{lt-ltb, le-ltb, eq-eqb, ne-eqb, ltb-true, ltb-false, eqb-true, eqb-false}
+use borrow.Author.Tests.{lt-ltb, le-ltb, eq-eqb, ne-eqb, ltb-true, ltb-false}
 use Rattle.paper.specs.Letters.{letters, among, Class, none, consonant, vowel, isConsonant, isVowel, vowelAfter, classAfter}
 use Rattle.paper.specs.Letters.{inward, classOf, letterAt, classAt, rise, rises, measure}
 use Rattle.paper.specs.LettersLaws.{inward-more}
-use Rattle.paper.specs.TestLaws.{by-test}
+use Rattle.paper.specs.TestLaws.{one-if, by-test}
 use Rattle.paper.specs.Conditions.{someVowel, *v*, *d, *o}
-
-abbrev one-if : Bool → ℕ
-one-if true = 1
-one-if false = 0
 
 -- of letters that stand from the last inward
 unfoldable pub stateIn : List ℕ → ℕ
@@ -42,12 +38,13 @@ unfolding measure state stateIn
 measure-by-state part = sym (half (rises (inward part)) (isVowel (classOf (inward part))))
 
 -- the last letter is a vowel where the state is odd
-pub vowel-by-state : (from-last : List ℕ) → isVowel (classOf from-last) ≡ eqb (stateIn from-last % 2) 1
+vowel-by-state : (from-last : List ℕ) → isVowel (classOf from-last) ≡ eqb (stateIn from-last % 2) 1
 unfolding stateIn
 vowel-by-state from-last = sym (odd (rises from-last) (isVowel (classOf from-last)))
 
 -- and a consonant where it is even, if there is a letter
-pub consonant-by-state : (from-last : List ℕ) → isConsonant (classOf from-last) ≡ ltb 0 (length from-last) && not (eqb (stateIn from-last % 2) 1)
+consonant-by-state : (from-last : List ℕ)
+    → isConsonant (classOf from-last) ≡ ltb 0 (length from-last) && not (eqb (stateIn from-last % 2) 1)
 unfolding classOf classAfter
 consonant-by-state [] = refl
 consonant-by-state (letter ∷ preceding) =
@@ -66,7 +63,7 @@ changed true false = 1
 changed false true = 1
 changed false false = 0
 
-pub state-in-more : (letter : ℕ) (preceding : List ℕ)
+state-in-more : (letter : ℕ) (preceding : List ℕ)
     → stateIn (letter ∷ preceding) ≡ changed (isVowel (classOf preceding)) (vowelAfter (classOf preceding) letter) + stateIn preceding
 unfolding stateIn rises classOf classAfter
 state-in-more letter preceding = go (classOf preceding) (vowelAfter (classOf preceding) letter) (rises preceding)
@@ -126,35 +123,20 @@ some-vowel (letter ∷ preceding) =
     go vowel true r = sym (lt-ltb 0 (0 + (2 * r + 1)) (omega arith))
     go vowel false r = lt-ltb 0 (2 * r + 1) (omega arith) ∙ sym (lt-ltb 0 (1 + (2 * r + 1)) (omega arith))
 
--- `*v*` where the state is at least 1, and so on: m>0 from 2, m>1 from 4, m=1 at 2 and 3
+-- `*v*` where the state is at least 1, m>0 from 2 on, m>1 from 4 on
 pub vowel-from-1 : (part : List ℕ) → *v* part ≡ ltb 0 (state part)
 unfolding *v* state
 vowel-from-1 part = some-vowel (inward part)
 
 above-by : (n k m : ℕ) → (k < m → 2 * k + 1 < n) → (m ≤ k → n ≤ 2 * k + 1) → ltb k m ≡ ltb (2 * k + 1) n
 above-by n k m up down =
-    by-test (ltb k m) (λ p. p ∙ sym (lt-ltb (2 * k + 1) n (up (ltb-true k m p)))) (λ p. p ∙ sym (le-ltb (2 * k + 1) n (down (ltb-false k m p))))
+    by-test (ltb k m) (λ p. p ∙ sym (lt-ltb (2 * k + 1) n (up (ltb-true k m p))))
+    (λ p. p ∙ sym (le-ltb (2 * k + 1) n (down (ltb-false k m p))))
 
 pub above-from : (k : ℕ) (part : List ℕ) → ltb k (measure part) ≡ ltb (2 * k + 1) (state part)
 above-from k part =
     let m = measure-by-state part in
     above-by (state part) k (measure part) (λ h. omega (arith, h, m)) (λ h. omega (arith, h, m))
-
-pub one-at : (part : List ℕ) → eqb (measure part) 1 ≡ ltb 1 (state part) && ltb (state part) 4
-one-at part =
-    let m = measure-by-state part in
-    by-test (eqb (measure part) 1)
-    (λ p.
-    let is = eqb-true (measure part) 1 p in
-    rw (p, lt-ltb 1 (state part) (omega (arith, is, m)), lt-ltb (state part) 4 (omega (arith, is, m))))
-    (λ p.
-    let other = eqb-false (measure part) 1 p in
-    by-test (ltb 1 (state part))
-    (λ q. rw (p, q, le-ltb (state part) 4 (too-many (state part) (measure part) m other (ltb-true 1 (state part) q))))
-    (λ q. rw (p, q)))
-  where
-    too-many : (n m : ℕ) → m ≡ n / 2 → (m ≡ 1 → ⊥) → 1 < n → 4 ≤ n
-    too-many n m is other least = omega (arith, is, other, least)
 
 abbrev pub even : ℕ → Bool
 even n = not (eqb (n % 2) 1)

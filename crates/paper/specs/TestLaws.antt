@@ -8,6 +8,11 @@ use mathlib.Core.Bool.{Bool, true, false, _&&_, _||_, or-true, true≢false, fal
 pub apart : {P : Type 0} → _≡_ {A = ℕ} 0 1 → P
 apart equal = absurd (omega arith)
 
+-- 1 where a test holds
+abbrev pub one-if : Bool → ℕ
+one-if true = 1
+one-if false = 0
+
 -- one of two cases
 pub by-test {ℓ} : {C : Type ℓ} (b : Bool) → (b ≡ true → C) → (b ≡ false → C) → C
 by-test true f g = f refl

@@ -3,9 +3,9 @@ use Prim.Native.Nat.{ℕ, _+_}
 use mathlib.Core.Bool.{cond, _||_}
 use mathlib.Core.List.{List}
 use lib.Dec.{ltb}
-use lib.ListN.{length, drop}
-use Rattle.records.specs.Framing.{kind, body, cut, bodyPlace}
-use Rattle.records.specs.Records.{gateNumber, condition, actionNumber, opensNumber, endingLength, endingPlace, replacementPlace, byKind}
+use lib.ListN.{length}
+use Rattle.records.specs.Records.{gateNumber, condition, actionNumber, opensNumber, endingLength, endingPlace, replacementPlace}
+use Rattle.records.specs.RecordAnswers.{byFrame}
 use Rattle.records.specs.declared.Record.{Record}
 use Rattle.records.specs.declared.Record.the-variants.{Group, Rule, End, Faulty}
 
@@ -20,7 +20,4 @@ passedRule place body =
     (place + length body))
 
 unfoldable pub passedAt : List ℕ → ℕ → Record
-passedAt sheet at =
-    let rest = drop at sheet in
-    let place = bodyPlace at in
-    cond (cut rest) Faulty (byKind (kind rest) (passedGroup place (body rest)) (passedRule place (body rest)) End Faulty)
+passedAt sheet at = byFrame passedGroup passedRule (λ rest. End) sheet at

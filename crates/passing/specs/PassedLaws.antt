@@ -10,7 +10,8 @@ use Rattle.records.specs.Framing.{body}
 use Rattle.records.specs.GateLaws.{group-length}
 use Rattle.records.specs.Records.{endingLength, faultyAlone}
 use Rattle.records.specs.RecordAnswers.{groupRecord, ruleRecord, endRecord, recordAt}
-use Rattle.records.specs.RecordLaws.{GroupHere, RuleHere, EndHere, Alone, a-fault, a-group, a-rule, an-end, alone, at-group, at-rule, at-end}
+use Rattle.records.specs.RecordLaws.{GroupHere, RuleHere, EndHere, Alone, a-fault, a-group, a-rule, an-end, alone}
+use Rattle.records.specs.RecordLaws.{at-group, at-rule, at-end}
 use Rattle.records.specs.RuleLaws.{sound}
 use Rattle.passing.specs.Passed.{passedGroup, passedRule, passedAt}
 

@@ -7,6 +7,7 @@ pub mod Outcomes
 -- Laws of frames, of the kinds, of bodies read and written, and of the record at a place
 pub mod FramingLaws
 pub mod RecordLaws
+pub mod FrameCases
 pub mod GateLaws
 pub mod RuleLaws
 pub mod WrittenRules

@@ -23,9 +23,12 @@ ruleRecord place body =
 unfoldable pub endRecord : List ℕ → Record
 endRecord rest = cond (faultyEnd rest) Faulty End
 
-unfoldable pub recordAt : List ℕ → ℕ → Record
-recordAt sheet at =
+-- the record at a place, by its frame: what is told of a group's and of a rule's body, and of an end
+abbrev pub byFrame : (ℕ → List ℕ → Record) → (ℕ → List ℕ → Record) → (List ℕ → Record) → List ℕ → ℕ → Record
+byFrame ofGroup ofRule ofEnd sheet at =
     let rest = drop at sheet in
     let place = bodyPlace at in
-    cond (cut rest) Faulty
-    (byKind (kind rest) (groupRecord place (body rest)) (ruleRecord place (body rest)) (endRecord rest) Faulty)
+    cond (cut rest) Faulty (byKind (kind rest) (ofGroup place (body rest)) (ofRule place (body rest)) (ofEnd rest) Faulty)
+
+unfoldable pub recordAt : List ℕ → ℕ → Record
+recordAt sheet at = byFrame groupRecord ruleRecord endRecord sheet at

@@ -200,4 +200,7 @@ module _ {sheet : List ℕ} {at groups rules : ℕ} {list : List Rule} {more : L
       }
 
   pub end-next : passedAt sheet at ≡ EndRecord → (list ≡ []) × (more ≡ [])
-  end-next e = let ended = sym (rest-end sheet at groups rules (record-here sheet at EndRecord (sym read-again ∙ e))) ∙ here .rest-is in (cc, cc)
+  end-next e =
+      let is = record-here sheet at EndRecord (sym read-again ∙ e) in
+      let ended = sym (rest-end sheet at groups rules is) ∙ here .rest-is in
+      (cc, cc)

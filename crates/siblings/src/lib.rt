@@ -1,6 +1,5 @@
 // The layout of document 01: the nodes of a table with their chains of siblings, and the translation from a sheet to such a
 // table.
-ghost use mathlib.Core.Path.{_≡_};
 ghost use Rattle.paper.specs.Words.{Gives};
 ghost use Rattle.answers.specs.Answers.{numberOfTranslated, valueOfTranslated};
 ghost use Rattle.siblings.specs.Translations.{translation};

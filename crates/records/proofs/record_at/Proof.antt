@@ -1,45 +1,27 @@
 -- `records::record_at` meets its contract: the frame says whether the record is cut, and the tests of its kind the rest.
 use Prim.Native.Nat.{ℕ, _-_}
 use mathlib.Core.Path.{_≡_, sym, _∙_}
-use mathlib.Core.Bool.{true}
 use mathlib.Core.List.{List}
 use native.Mathlib.Omega.{arith}
 use borrow.Author.Tests.{eq-eqb, ne-eqb}
-use lib.ListN.{length, take, drop, length-drop}
+use lib.ListN.{length, drop, length-drop}
 use Rattle.records.specs.declared.framing.Frame.the-variants.{Whole, Cut}
 use Rattle.records.specs.declared.Record.the-variants.{End, Faulty}
-use Rattle.records.specs.Framing.{bodyLength, recordLength, after, cut, bodyPlace, nextPlace}
+use Rattle.records.specs.Framing.{bodyLength, recordLength, after, bodyPlace, nextPlace}
 use Rattle.records.specs.FramingLaws.{FramedAt, framed, length-after}
-use Rattle.records.specs.Records.{faultyEnd, byKind}
+use Rattle.records.specs.Records.{faultyEnd}
 use Rattle.records.specs.RecordAnswers.{groupRecord, ruleRecord, endRecord, recordAt}
-use Rattle.records.specs.RecordLaws.{at-group, at-rule, at-end}
+use Rattle.records.specs.FrameCases.{frame-cut, frame-group, frame-rule, frame-end, frame-other}
 use borrow.Author.Needs.{needs}
 use Rattle.records.proofs.record_at.Statement.{statement}
 use Rattle.records.proofs.record_at.Tie as tie
 
 module _ (sheet : List ℕ) (at : ℕ) where
-  of-cut : cut (drop at sheet) ≡ true → Faulty ≡ recordAt sheet at
-  unfolding recordAt
-  of-cut short = simp short
-
   module _ {k b next : ℕ} (is : FramedAt sheet at k b next) where
-    of-group : k ≡ 1 → groupRecord b (take (next - b) (drop b sheet)) ≡ recordAt sheet at
-    unfolding recordAt
-    of-group one = rw (is .body-is, is .place-is, is .whole, at-group _ _ _ _ _ (sym (is .kind-is) ∙ one))
-
-    of-rule : k ≡ 2 → ruleRecord b (take (next - b) (drop b sheet)) ≡ recordAt sheet at
-    unfolding recordAt
-    of-rule two = rw (is .body-is, is .place-is, is .whole, at-rule _ _ _ _ _ (sym (is .kind-is) ∙ two))
-
-    of-another-kind : (k ≡ 1 → ⊥) → (k ≡ 2 → ⊥) → (k ≡ 3 → ⊥) → Faulty ≡ recordAt sheet at
-    unfolding recordAt byKind
-    of-another-kind not-one not-two not-three =
-        simp (is .whole, ← is .kind-is, ne-eqb k 1 not-one, ne-eqb k 2 not-two, ne-eqb k 3 not-three)
-
     module _ (three : k ≡ 3) where
       of-end : endRecord (drop at sheet) ≡ recordAt sheet at
       unfolding recordAt
-      of-end = rw (is .whole, at-end _ _ _ _ _ (sym (is .kind-is) ∙ three))
+      of-end = frame-end groupRecord ruleRecord endRecord sheet at is three
 
       -- how long the body is, and what stands after it
       size-is : bodyLength (drop at sheet) ≡ next - b
@@ -105,7 +87,10 @@ group-in-requires : tie.Need-group-in-requires
 group-in-requires c κs = search needs
 
 returns : tie.Need-returns
-returns c = c .group-in .ensures ∙ of-group _ _ (frame-of (c .before .before .before)) (c .before .before .if1 .taken)
+unfolding recordAt
+returns c =
+    c .group-in .ensures
+    ∙ frame-group groupRecord ruleRecord endRecord _ _ (frame-of (c .before .before .before)) (c .before .before .if1 .taken)
 
 sub-rule-in : tie.Need-sub-rule-in
 sub-rule-in c = frame-of (c .before .before) .ahead
@@ -120,11 +105,16 @@ rule-in-requires : tie.Need-rule-in-requires
 rule-in-requires c κs = search needs
 
 returns-2 : tie.Need-returns-2
-returns-2 c = c .rule-in .ensures ∙ of-rule _ _ (frame-of (c .before .before .before .before)) (c .before .before .if2 .taken)
+unfolding recordAt
+returns-2 c =
+    c .rule-in .ensures
+    ∙ frame-rule groupRecord ruleRecord endRecord _ _ (frame-of (c .before .before .before .before)) (c .before .before .if2 .taken)
 
 returns-3 : tie.Need-returns-3
+unfolding recordAt
 returns-3 c =
-    of-another-kind _ _ (frame-of (c .before .before .before)) (c .before .before .if1 .left) (c .before .if2 .left) (c .if3 .taken)
+    frame-other groupRecord ruleRecord endRecord _ _ (frame-of (c .before .before .before))
+    (c .before .before .if1 .left) (c .before .if2 .left) (c .if3 .taken)
 
 returns-4 : tie.Need-returns-4
 returns-4 c = end-with-body _ _ (frame-of (c .before .before .before .before)) (c .before .if3 .left) (c .if4 .taken)
@@ -135,9 +125,11 @@ returns-5 c =
     end-alone _ _ (frame-of (third .before .before .before)) (third .if3 .left) (c .before .if4 .left) (c .if5 .taken)
 
 returns-6 : tie.Need-returns-6
+unfolding recordAt
 returns-6 c =
     let args = c .before .before .before .before .args in
-    of-cut _ _ (framed (args .sheet .now) (args .at) Cut (sym (c .before .before .frame-at .ensures) ∙ c .enum-told .given .1))
+    let short = framed (args .sheet .now) (args .at) Cut (sym (c .before .before .frame-at .ensures) ∙ c .enum-told .given .1) in
+    frame-cut groupRecord ruleRecord endRecord (args .sheet .now) (args .at) short
 
 returns-7 : tie.Need-returns-7
 returns-7 c =
