@@ -1,8 +1,8 @@
 -- "answered n exactly when ..": each number of document 01 for a call on a word, whatever reads the word; and 4 in 01's words, of a
 -- word that is read by groups.
-use Prim.Native.Nat.{ℕ, _≤_, _<_}
+use Prim.Native.Nat.{ℕ, zero, suc, _≤_, _<_}
 use native.Mathlib.Omega.{arith}
-use mathlib.Core.Path.{_≡_, refl, sym, ap, _∙_}
+use mathlib.Core.Path.{_≡_, refl, sym, ap, subst, _∙_}
 use mathlib.Core.Bool.{Bool, true, false, true≢false}
 use mathlib.Core.List.{List, [], _∷_, map}
 use mathlib.Core.List.{List·Memᴰ, List·Memᴰ·head, List·Memᴰ·tail, List·Memᴰ·not-nil, List·Memᴰ·cases-cons}
@@ -47,11 +47,20 @@ small-in (one ∷ bytes) byte all m =
     let both = and-parts (small one) (allSmall bytes) all in
     ⊎-elim (λ same. rw same (both .0)) (λ later. small-in bytes byte (both .1) later) (List·Memᴰ·cases-cons m)
 
--- ## The four ways out of a call
+-- ## Every number, both ways
 
 module _ (rule : List ℕ → Reading) (word : List ℕ) where
   abbrev number : ℕ
   number = wordOutcome rule word .number
+
+  -- when a number is answered; no other is
+  abbrev pub When : ℕ → Type 0
+  When zero = SmallWord word × ((stem : List ℕ) × (rule word ≡ done stem))
+  When (suc zero) = WrongLength word
+  When (suc (suc zero)) = RightLength word × OtherByte word
+  When (suc (suc (suc zero))) = ⊥
+  When (suc (suc (suc (suc zero)))) = SmallWord word × (rule word ≡ outgrown)
+  When (suc (suc (suc (suc (suc more))))) = ⊥
 
   wrong-length : WrongLength word → number ≡ 1
   wrong-length wrong =
@@ -69,11 +78,18 @@ module _ (rule : List ℕ → Reading) (word : List ℕ) where
           let is-taken = sym (judged-taken word (λ none. omega (arith, right .least)) (right .most) all) in
           ap (λ (o : Outcome). o .number) (outcome-taken rule word is-taken ∙ ap (readingOutcome word) is)
 
-  data Way : Type 0 where
-    wrong : WrongLength word → number ≡ 1 → Way
-    other : RightLength word → OtherByte word → number ≡ 2 → Way
-    longer : SmallWord word → rule word ≡ outgrown → number ≡ 4 → Way
-    stemmed : SmallWord word → (stem : List ℕ) → rule word ≡ done stem → number ≡ 0 → Way
+  has-other : OtherByte word → allSmall word ≡ false
+  has-other other =
+      by-test (allSmall word) (λ all. absurd (true≢false (sym (small-in word (other .0) all (other .1)) ∙ other .2))) (λ some. some)
+
+  answered-when : (n : ℕ) → When n → number ≡ n
+  unfolding readingOutcome
+  answered-when zero both = read (both .0 .0) (both .0 .1) (both .1 .1)
+  answered-when (suc zero) wrong = wrong-length wrong
+  answered-when (suc (suc zero)) both = other-byte (both .0) (has-other (both .1))
+  answered-when (suc (suc (suc zero))) never = absurd never
+  answered-when (suc (suc (suc (suc zero)))) both = read (both .0 .0) (both .0 .1) (both .1)
+  answered-when (suc (suc (suc (suc (suc more))))) never = absurd never
 
   abbrev none-left : Bool
   none-left = eqb (length word) 0
@@ -81,90 +97,27 @@ module _ (rule : List ℕ → Reading) (word : List ℕ) where
   abbrev too-long : Bool
   too-long = ltb 64 (length word)
 
-  way : Way
-  unfolding wrongLength readingOutcome
-  way =
+  -- some number is answered
+  some-answer : (n : ℕ) × When n
+  unfolding wrongLength
+  some-answer =
       by-test (wrongLength word)
-      (λ is.
-      let said : WrongLength word
-      = or-cases none-left too-long is (λ none. inl (eqb-true _ _ none)) (λ long. inr (ltb-true _ _ long)) in
-      wrong said (wrong-length said))
+      (λ is. (1, or-cases none-left too-long is (λ none. inl (eqb-true _ _ none)) (λ long. inr (ltb-true _ _ long))))
       (λ is.
       let none = eqb-false (length word) 0 (neither-left none-left too-long is) in
       let right : RightLength word
       = record { least = omega (arith, none); most = ltb-false 64 (length word) (neither-right none-left too-long is) } in
-      by-test (allSmall word)
-      (λ all. by-reading right all (rule word) refl)
-      (λ some. other right (other-in word some) (other-byte right some)))
+      by-test (allSmall word) (λ all. by-reading right all (rule word) refl) (λ some. (2, (right, other-in word some))))
     where
-      by-reading : RightLength word → allSmall word ≡ true → (given : Reading) → rule word ≡ given → Way
-      by-reading right all (done stem) is = stemmed (right, all) stem is (read right all is)
-      by-reading right all outgrown is = longer (right, all) is (read right all is)
+      by-reading : RightLength word → allSmall word ≡ true → (given : Reading) → rule word ≡ given → (n : ℕ) × When n
+      by-reading right all (done stem) is = (0, ((right, all), (stem, is)))
+      by-reading right all outgrown is = (4, ((right, all), is))
 
-  -- ## Each number, both ways
-
-  -- no other number is answered
-  pub at-most-4 : number ≤ 4
-  at-most-4 = of way
-    where
-      of : Way → number ≤ 4
-      of (wrong said n) = omega (arith, n)
-      of (other right some n) = omega (arith, n)
-      of (longer small-word grown n) = omega (arith, n)
-      of (stemmed small-word stem gives n) = omega (arith, n)
-
-  pub never-3 : number ≡ 3 → ⊥
-  never-3 is = of way
-    where
-      of : Way → ⊥
-      of (wrong said n) = omega (arith, n, is)
-      of (other right some n) = omega (arith, n, is)
-      of (longer small-word grown n) = omega (arith, n, is)
-      of (stemmed small-word stem gives n) = omega (arith, n, is)
-
-  pub answered-1 : (number ≡ 1) ↔ WrongLength word
-  answered-1 = (λ is. to way is, wrong-length)
-    where
-      to : Way → number ≡ 1 → WrongLength word
-      to (wrong said n) is = said
-      to (other right some n) is = absurd (omega (arith, n, is))
-      to (longer small-word grown n) is = absurd (omega (arith, n, is))
-      to (stemmed small-word stem gives n) is = absurd (omega (arith, n, is))
-
-  pub answered-2 : (number ≡ 2) ↔ (RightLength word × OtherByte word)
-  answered-2 = (λ is. to way is, back)
-    where
-      to : Way → number ≡ 2 → RightLength word × OtherByte word
-      to (wrong said n) is = absurd (omega (arith, n, is))
-      to (other right some n) is = (right, some)
-      to (longer small-word grown n) is = absurd (omega (arith, n, is))
-      to (stemmed small-word stem gives n) is = absurd (omega (arith, n, is))
-
-      back : RightLength word × OtherByte word → number ≡ 2
-      back both =
-          let other = both .1 in
-          by-test (allSmall word) (λ all. absurd (true≢false (sym (small-in word (other .0) all (other .1)) ∙ other .2)))
-          (other-byte (both .0))
-
-  pub answered-4 : (number ≡ 4) ↔ (SmallWord word × (rule word ≡ outgrown))
-  unfolding readingOutcome
-  answered-4 = (λ is. to way is, λ both. read (both .0 .0) (both .0 .1) (both .1))
-    where
-      to : Way → number ≡ 4 → SmallWord word × (rule word ≡ outgrown)
-      to (wrong said n) is = absurd (omega (arith, n, is))
-      to (other right some n) is = absurd (omega (arith, n, is))
-      to (longer small-word grown n) is = (small-word, grown)
-      to (stemmed small-word stem gives n) is = absurd (omega (arith, n, is))
-
-  pub answered-0 : (number ≡ 0) ↔ (SmallWord word × ((stem : List ℕ) × (rule word ≡ done stem)))
-  unfolding readingOutcome
-  answered-0 = (λ is. to way is, λ both. read (both .0 .0) (both .0 .1) (both .1 .1))
-    where
-      to : Way → number ≡ 0 → SmallWord word × ((stem : List ℕ) × (rule word ≡ done stem))
-      to (wrong said n) is = absurd (omega (arith, n, is))
-      to (other right some n) is = absurd (omega (arith, n, is))
-      to (longer small-word grown n) is = absurd (omega (arith, n, is))
-      to (stemmed small-word stem gives n) is = (small-word, (stem, gives))
+  pub answered : (n : ℕ) → (number ≡ n) ↔ When n
+  answered n = (
+    λ is. let found = some-answer in subst When (sym (answered-when (found .0) (found .1)) ∙ is) (found .1),
+    answered-when n,
+  )
 
 -- ## "some group's result is longer than the word's place"
 

@@ -11,7 +11,7 @@ use Rattle.paper.specs.GroupsLaws.{same-equal, same-itself}
 use Rattle.paper.specs.Nodes.{nodeCount}
 use Rattle.paper.specs.TestLaws.{apart, by-test}
 use Rattle.paper.specs.Words.{Outcome, readWord, wordOutcome}
-use Rattle.paper.specs.Answered.{at-most-4, never-3}
+use Rattle.paper.specs.Answered.{answered}
 use Rattle.sheets.specs.Sheets.{Sheet, refused, accepted, readSheet}
 use Rattle.sheets.specs.Accepted.{groupsIn, groupsOf, Accepted}
 use Rattle.sheets.specs.Checks.{checkOf, checked}
@@ -48,7 +48,7 @@ module _ (table word : List ℕ) where
   three-by (refused place) = (λ is. refl, λ is. refl)
   three-by (accepted groups) = (
     λ is. by-test (rightTable groups table)
-        (λ p. absurd (never-3 (readWord groups) word (sym (ap (λ (o : Outcome). o .number) (right-reads groups table word p)) ∙ is)))
+        (λ p. absurd (answered (readWord groups) word 3 .0 (sym (ap (λ (o : Outcome). o .number) (right-reads groups table word p)) ∙ is)))
         (λ p. let n : 7 ≡ 3 = rw p at is in absurd (omega arith)),
     λ is. absurd (omega (arith, is)),
   )
@@ -59,10 +59,7 @@ module _ (table word : List ℕ) where
   seven-by (refused place) = (λ is. absurd (omega (arith, is)), λ both. apart (let no = both .0 in cc))
   seven-by (accepted groups) = (
     λ is. by-test (rightTable groups table)
-        (λ p.
-        let few = at-most-4 (readWord groups) word in
-        let n = sym (ap (λ (o : Outcome). o .number) (right-reads groups table word p)) ∙ is in
-        absurd (omega (arith, few, n)))
+        (λ p. absurd (answered (readWord groups) word 7 .0 (sym (ap (λ (o : Outcome). o .number) (right-reads groups table word p)) ∙ is)))
         (λ p. (refl, inr (λ right. true≢false (sym (is-right groups right) ∙ p)))),
     λ both. by-test (rightTable groups table) (λ p. absurd (not-missing groups (says-right groups p) (both .1))) (λ p. rw p refl),
   )
