@@ -121,6 +121,7 @@ def written(kind):
         "u64": "output::number((result % 4294967296) as usize); output::number((result / 4294967296) as usize);",
         "&[u8]": "output::bytes(result);",
         "Ran": "let reply = answers::of_run(result); output::reply(reply.number, reply.value);",
+        "Run": "output::number(result.end); output::byte(if result.small { 1 } else { 0 });",
     }[kind]
 
 
@@ -157,7 +158,7 @@ fn main() {{
 def values_of(call, coded):
     """What the program of a call wrote: its result and the room."""
     kind = result_of(call)
-    size = {"": 0, "bool": 1, "usize": 4, "u64": 8, "Ran": 5}.get(kind, len(coded))
+    size = {"": 0, "bool": 1, "usize": 4, "u64": 8, "Ran": 5, "Run": 5}.get(kind, len(coded))
     result, room = coded[:size], coded[size:]
     if len(result) < size:
         return [coded]
@@ -165,6 +166,8 @@ def values_of(call, coded):
         values = [list(struct.unpack(f"<{size // 2}H", result))]
     elif kind == "Ran":
         values = list(struct.unpack("<BI", result))
+    elif kind == "Run":
+        values = [int.from_bytes(result[:4], "little"), "true" if result[4] else "false"]
     elif kind == "bool":
         values = ["true" if result[0] else "false"]
     elif kind in ("usize", "u64"):

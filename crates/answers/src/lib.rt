@@ -1,6 +1,6 @@
 // What each call answers, with document 01's numbers for it; and what is said of a word before it is read.
 ghost use mathlib.Core.Path.{_≡_};
-ghost use Rattle.paper.specs.Words.{judged};
+ghost use Rattle.paper.specs.Words.{judged, judgedBy};
 ghost use Rattle.answers.specs.Answers.{numberOf, valueOf, numberOfText, stemmedOf, leftOf};
 ghost use Rattle.answers.specs.Answers.{tells, numberOfTranslated, valueOfTranslated, numberOfRan, valueOfRan, judgementOf};
 
@@ -58,20 +58,26 @@ pub enum Judged {
     Refused(Answer),
 }
 
-// "1, 2 .. for a word"
-pub fn judge(word: &[u8]) -> Judged
-    ensures { λ r. ⌜ judgementOf r ≡ judged (now (word .entry)) ⌝ }
+// "1, 2 .. for a word", by its length and the place of its first byte outside a to z.
+pub fn judge_by(length: usize, other: usize) -> Judged
+    ensures { λ r. ⌜ judgementOf r ≡ judgedBy length other ⌝ }
 {
-    if word.len() == 0 {
+    if length == 0 {
         return Judged::Refused(Answer::WrongLength);
     }
-    if 64 < word.len() {
+    if 64 < length {
         return Judged::Refused(Answer::WrongLength);
     }
-    if letters::first_other(word) < word.len() {
+    if other < length {
         return Judged::Refused(Answer::OtherByte);
     }
     Judged::Taken
+}
+
+pub fn judge(word: &[u8]) -> Judged
+    ensures { λ r. ⌜ judgementOf r ≡ judged (now (word .entry)) ⌝ }
+{
+    judge_by(word.len(), letters::first_other(word))
 }
 
 // An answer in numbers: document 01's number, and the value returned besides it.

@@ -2,13 +2,16 @@
 use Prim.Native.Nat.{ℕ, zero, suc, _+_, _-_, _≤_, _<_}
 use native.Mathlib.Nat.{le-of-suc-le-suc, not-suc-le-zero}
 use native.Mathlib.Omega.{arith}
-use mathlib.Core.Path.{_≡_, ap, _∙_}
-use mathlib.Core.Bool.{false}
+use Prim.Native.Char.{code}
+use mathlib.Core.Path.{_≡_, refl, ap, _∙_}
+use mathlib.Core.Bool.{Bool, true, false, _&&_, _||_}
 use mathlib.Core.List.{List, [], _∷_, map}
+use lib.Dec.{eqb}
 use lib.ListN.{getD, List·getD-map}
 use borrow.Author.Tests.{ne-eqb}
-use Rattle.paper.specs.Letters.{letters, among, Class, none, consonant, vowelAfter}
-use Rattle.letters.specs.Scan.{beforeRow, alphabet, classTable}
+use Rattle.paper.specs.Letters.{letters, among, Class, none, consonant, isConsonant, vowelAfter}
+use Rattle.paper.specs.Noted.{classBefore}
+use Rattle.letters.specs.Scan.{alphabet, classTable}
 
 -- none of a, e, i, o, u, y
 no-vowel :
@@ -60,9 +63,19 @@ row-at preceding l low high =
     let f : getD alphabet (l - 97) 0 ≡ l = omega arith in
     List·getD-map (vowelAfter preceding) alphabet (l - 97) 0 ∙ ap (vowelAfter preceding) f
 
+-- of the second row only the y counts, and only behind a consonant
+both-rows : (some y b : Bool)
+    → (some || (y && false)) || ((some || (y && true)) && b) ≡ some || (y && isConsonant (classBefore b))
+both-rows true y b = refl
+both-rows false true true = refl
+both-rows false true false = refl
+both-rows false false b = refl
+
 pub in-table :
-    (row l : ℕ) → row < 2 → 97 ≤ l → l ≤ 122 → getD (getD classTable row []) (l - 97) false ≡ vowelAfter (beforeRow row) l
-unfolding classTable
-in-table zero l h low high = row-at none l low high
-in-table (suc zero) l h low high = row-at consonant l low high
-in-table (suc (suc k)) l h low high = absurd (not-suc-le-zero (le-of-suc-le-suc (le-of-suc-le-suc h)))
+    (b : Bool) (l : ℕ)
+    → 97 ≤ l
+    → l ≤ 122
+    → getD (getD classTable 0 []) (l - 97) false || (getD (getD classTable 1 []) (l - 97) false && b) ≡ vowelAfter (classBefore b) l
+unfolding classTable vowelAfter
+in-table b l low high =
+    rw (row-at none l low high, row-at consonant l low high) (both-rows (among l (letters "aeiou")) (eqb l (code "y")) b)

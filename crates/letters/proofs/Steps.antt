@@ -2,62 +2,44 @@
 use Prim.Native.Nat.{ℕ, _+_, _%_, _^_, _<_, _≤_}
 use native.Mathlib.Numerals.{add-one}
 use native.Mathlib.Omega.{arith}
-use mathlib.Core.Path.{_≡_, refl, ap, sym, subst, _∙_}
-use mathlib.Core.Bool.{Bool, true, false, cond}
+use mathlib.Core.Path.{_≡_, ap, sym, subst, _∙_}
+use mathlib.Core.Bool.{Bool, true, false}
 use lib.Dec.{eqb}
 use lib.ListN.{length, take, drop, getD, take-append-drop}
 use lib.Seq.{take-suc, take-all}
 use mathlib.Core.List.{List, [], _∷_, _++_}
-use Rattle.paper.specs.Letters.{Class, none, consonant, vowel, vowelAfter, classAfter, classAt}
-use Rattle.paper.specs.LettersLaws.{classAt-more}
-use Rattle.paper.specs.States.{state as stateOf, changed, stateAt, last-by-state, state-more, stateAt-earlier, state-grows}
-use Rattle.letters.specs.Scan.{beforeRow, rowAfter, classTable, Scanned}
+use Rattle.paper.specs.Letters.{vowelAfter}
+use Rattle.paper.specs.States.{state as stateOf, changed, even, stateAt, stateAt-earlier, state-grows}
+use Rattle.paper.specs.Noted.{classBefore, nextState, next-is, ends-after}
+use Rattle.letters.specs.Scan.{classTable, Scanned}
 use Rattle.letters.specs.declared.Passed.{Passed}
 
--- of the letter before, only whether it is a consonant counts
-by-row : (preceding : Class) (l : ℕ) → vowelAfter (beforeRow (rowAfter preceding)) l ≡ vowelAfter preceding l
-unfolding rowAfter vowelAfter
-by-row none l = refl
-by-row consonant l = refl
-by-row vowel l = refl
+-- a letter adds one at most
+one-most : (a b : Bool) → changed a b ≤ 1
+one-most true true = omega arith
+one-most true false = omega arith
+one-most false true = omega arith
+one-most false false = omega arith
+
+pub next-most : (after : Bool) (before letter : ℕ) → nextState after before letter ≤ before + 1
+unfolding nextState
+next-most after before letter = omega (arith, one-most (eqb (before % 2) 1) (vowelAfter (classBefore after) letter))
 
 module _ (part : List ℕ) (s : Passed) (h : Scanned part s) (l : ℕ) where
-  class-is : (b : Bool) → vowelAfter (beforeRow (s .row)) l ≡ b → vowelAfter (classAt 0 part) l ≡ b
-  class-is b e = sym (by-row (classAt 0 part) l) ∙ ap (λ (r : ℕ). vowelAfter (beforeRow r) l) (sym (h .row)) ∙ e
-
-  row-more : (b : Bool) → vowelAfter (classAt 0 part) l ≡ b → rowAfter (classAt 0 (part ++ l ∷ [])) ≡ cond b 0 1
-  unfolding rowAfter classAfter
-  row-more true e = rw (classAt-more, e)
-  row-more false e = rw (classAt-more, e)
-
   state-before : stateAt 1 (part ++ l ∷ []) ≡ stateOf part
   unfolding stateOf
   state-before = stateAt-earlier 0 part l
 
-  -- the state after it, by whether the letter and the one before it are vowels
-  pub one-more : (b : Bool) (n : ℕ) → vowelAfter (beforeRow (s .row)) l ≡ b → n ≡ changed (eqb (s .state % 2) 1) b + s .state
-      → Scanned (part ++ l ∷ []) (record { state = n; before = s .state; earlier = s .before; row = cond b 0 1 })
-  one-more b n e counted =
-      let is = class-is b e in
+  pub one-more : (n : ℕ) → n ≡ nextState (s .consonant) (s .state) l
+      → Scanned (part ++ l ∷ []) (record { state = n; before = s .state; earlier = s .before; consonant = even n })
+  one-more n is =
+      let after : n ≡ stateOf (part ++ l ∷ []) = is ∙ rw (h .consonant, h .state) (next-is part l) in
       record {
-        state = counted ∙ rw (h .state, state-more, is, last-by-state part);
+        state = after;
         before = h .state ∙ sym state-before;
         earlier = h .before ∙ sym (stateAt-earlier 1 part l);
-        row = sym (row-more b is);
+        consonant = ap even after ∙ ends-after part l;
       }
-
-row-below : (preceding : Class) → rowAfter preceding < 2
-unfolding rowAfter
-row-below none = omega arith
-row-below consonant = omega arith
-row-below vowel = omega arith
-
-pub row-small : (part : List ℕ) (s : Passed) → Scanned part s → s .row < 2
-row-small part s h = rw (h .row) (row-below (classAt 0 part))
-
--- a number that is at least k, and not k
-pub beyond : {n : ℕ} (k : ℕ) → k ≤ n → (n ≡ k → ⊥) → k + 1 ≤ n
-beyond k low other = omega arith
 
 -- ## The loop of a scan
 
@@ -70,8 +52,8 @@ pub step-asks :
     (part : List ℕ) (table : List (List Bool)) (s : Passed) (i : ℕ)
     → Passing part table s i
     → length part < 2 ^ 63
-    → (table ≡ classTable) × ((s .row < 2) × (s .state < 2 ^ 63))
-step-asks part table s i passing short = (passing .1, (row-small (take i part) s (passing .3), omega arith))
+    → (table ≡ classTable) × (s .state < 2 ^ 63)
+step-asks part table s i passing short = (passing .1, omega arith)
 
 pub step-gives :
     (part : List ℕ) (table : List (List Bool)) (s after : Passed) (i : ℕ)

@@ -1,15 +1,17 @@
-// The class of a letter, the measure, the nine conditions and the letter test of document 01, on byte slices. Every
-// function takes any bytes: a byte outside a to z is a consonant, and a number above 8 is no condition and does not hold.
+// The class of a letter, the measure, the conditions and the letter test of document 01, on byte slices; and the states of a word, noted
+// beside it. Every function takes any bytes: a byte outside a to z is a consonant.
 ghost use mathlib.Core.Path.{_≡_};
 ghost use mathlib.Core.List.{List, [], _∷_, _++_};
 ghost use lib.Dec.{ltb};
 ghost use Prim.Native.Nat.{ℕ, _+_, _<_, _≤_, _^_};
-ghost use Rattle.paper.specs.Letters.{vowelAfter, letterAt, measure as measureOf};
-ghost use Rattle.paper.specs.Conditions.{*d, *o, holds as holdsOf};
+ghost use Rattle.paper.specs.Letters.{vowelAfter, measure as measureOf};
+ghost use Rattle.paper.specs.Conditions.{holds as holdsOf};
 ghost use Rattle.paper.specs.States.{state as stateOf};
+ghost use Rattle.paper.specs.Noted.{classBefore, nextState};
 ghost use Rattle.paper.specs.Groups.{endsWith};
 ghost use Rattle.paper.specs.Words.{firstOther};
-ghost use Rattle.letters.specs.Scan.{classTable, beforeRow, Scanned};
+ghost use Rattle.letters.specs.Scan.{classTable, Scanned};
+ghost use Rattle.letters.specs.Notes.{noted, renewed};
 
 // Whether a letter is a vowel: first by whether the letter before it was a consonant, then by the letter, a to z.
 const CLASS: [[bool; 26]; 2] = [
@@ -77,13 +79,14 @@ struct Passed {
     state: usize,
     before: usize,
     earlier: usize,
-    // The row of CLASS for the next letter.
-    row: usize,
+    // Whether the last of them is a consonant: the row of CLASS for the next letter.
+    consonant: bool,
 }
 
-fn vowel_after(table: &[[bool; 26]; 2], row: usize, letter: u8) -> bool
-    requires { ⌜ (now table ≡ classTable) × (row < 2) ⌝ }
-    ensures { λ r. ⌜ r ≡ vowelAfter (beforeRow row) letter ⌝ }
+// Both rows are read, so that no letter waits for the class of the one before it.
+fn vowel_after(table: &[[bool; 26]; 2], consonant: bool, letter: u8) -> bool
+    requires { ⌜ now table ≡ classTable ⌝ }
+    ensures { λ r. ⌜ r ≡ vowelAfter (classBefore consonant) letter ⌝ }
 {
     if letter < 97 {
         return false;
@@ -92,45 +95,32 @@ fn vowel_after(table: &[[bool; 26]; 2], row: usize, letter: u8) -> bool
         return false;
     }
     let column = (letter - 97) as usize;
-    table[row][column]
+    table[0][column] | (table[1][column] & consonant)
 }
 
-// One letter more. The state is one more where the class is another.
+// The state after one letter more: one more where the class is another.
+fn next_state(table: &[[bool; 26]; 2], consonant: bool, state: usize, letter: u8) -> usize
+    requires { ⌜ (now table ≡ classTable) × (state < 2 ^ 63) ⌝ }
+    ensures { λ r. ⌜ r ≡ nextState consonant state letter ⌝ }
+{
+    if vowel_after(table, consonant, letter) == (state % 2 == 1) {
+        return state;
+    }
+    state + 1
+}
+
+// One letter more.
 fn step(table: &[[bool; 26]; 2], s: Passed, letter: u8) -> Passed
-    requires { ⌜ (now table ≡ classTable) × ((s .row < 2) × (s .state < 2 ^ 63)) ⌝ }
+    requires { ⌜ (now table ≡ classTable) × (s .state < 2 ^ 63) ⌝ }
     ensures { λ r. ⌜ r .state ≤ s .state + 1 ⌝ }
     ensures { λ r. ⌜ ((part : List ℕ) → Scanned part s → Scanned (part ++ letter ∷ []) r) ⌝ }
 {
-    let state = s.state;
-    if vowel_after(table, s.row, letter) {
-        if state % 2 == 1 {
-            return Passed {
-                state,
-                before: state,
-                earlier: s.before,
-                row: 0,
-            };
-        }
-        return Passed {
-            state: state + 1,
-            before: state,
-            earlier: s.before,
-            row: 0,
-        };
-    }
-    if state % 2 == 1 {
-        return Passed {
-            state: state + 1,
-            before: state,
-            earlier: s.before,
-            row: 1,
-        };
-    }
+    let state = next_state(table, s.consonant, s.state, letter);
     Passed {
         state,
-        before: state,
+        before: s.state,
         earlier: s.before,
-        row: 1,
+        consonant: state % 2 != 1,
     }
 }
 
@@ -142,7 +132,7 @@ fn nothing_passed() -> Passed
         state: 0,
         before: 0,
         earlier: 0,
-        row: 0,
+        consonant: false,
     }
 }
 
@@ -183,52 +173,6 @@ pub fn measure(part: &[u8]) -> usize
     s.state / 2
 }
 
-// The letter at `back` places before the last, or 0 where there is none.
-fn letter_at(part: &[u8], back: usize) -> u8
-    ensures { λ r. ⌜ r ≡ letterAt back (now (part .entry)) ⌝ }
-{
-    if back < part.len() {
-        let at = part.len() - 1 - back;
-        part[at]
-    } else {
-        0
-    }
-}
-
-fn double(part: &[u8], s: Passed) -> bool
-    requires { ⌜ Scanned (now part) s ⌝ }
-    ensures { λ r. ⌜ r ≡ *d (now (part .entry)) ⌝ }
-{
-    (letter_at(part, 0) == letter_at(part, 1))
-        & ((1 < part.len()) & ((s.state % 2 != 1) & (s.before % 2 != 1)))
-}
-
-fn short(part: &[u8], s: Passed) -> bool
-    requires { ⌜ Scanned (now part) s ⌝ }
-    ensures { λ r. ⌜ r ≡ *o (now (part .entry)) ⌝ }
-{
-    let last = letter_at(part, 0);
-    ((2 < part.len()) & ((s.earlier % 2 != 1) & (!(s.before % 2 != 1) & (s.state % 2 != 1))))
-        & !((last == 119) | ((last == 120) | (last == 121)))
-}
-
-// The conditions that ask for more than the measure or a vowel.
-fn judged(condition: u8, part: &[u8], s: Passed) -> bool
-    requires { ⌜ (4 ≤ condition) × Scanned (now part) s ⌝ }
-    ensures { λ r. ⌜ r ≡ holdsOf condition (now (part .entry)) ⌝ }
-{
-    let last = letter_at(part, 0);
-    let m = s.state / 2;
-    match condition {
-        4 => (1 < m) & ((last == 115) | (last == 116)),
-        5 => double(part, s) & !((last == 108) | ((last == 115) | (last == 122))),
-        6 => (m == 1) & short(part, s),
-        7 => (m == 1) & !short(part, s),
-        8 => (1 < m) & (double(part, s) & (last == 108)),
-        _ => false,
-    }
-}
-
 // Whether the condition of this number holds of the part before an ending. Of the first three the state alone says it.
 pub fn holds(condition: u8, part: &[u8]) -> bool
     ensures { λ r. ⌜ r ≡ holdsOf condition (now (part .entry)) ⌝ }
@@ -241,12 +185,67 @@ pub fn holds(condition: u8, part: &[u8]) -> bool
         _ => {
             // Condition 8 is asked of every word, and few end in l.
             if condition == 8 {
-                if letter_at(part, 0) != 108 {
+                if conditions::letter_at(part, 0) != 108 {
                     return false;
                 }
             }
-            judged(condition, part, scan(part))
+            let s = scan(part);
+            conditions::judged(condition, part, s.state, s.before, s.earlier)
         }
+    }
+}
+
+// Notes the states of a word behind the first place of a list that is longer than it, and returns the place of the first byte outside
+// a to z, or the word's length; no state is noted from that byte on.
+pub fn note(word: &[u8], states: &mut [u8]) -> usize
+    ensures { λ r. ⌜ r ≡ firstOther (now (word .entry)) ⌝ }
+    ensures { λ _. ⌜ now (states .exit) ≡ noted (now (states .entry)) (now (word .entry)) ⌝ }
+{
+    if (states.len() <= word.len()) | (255 < word.len()) {
+        return first_other(word);
+    }
+    let table = &CLASS;
+    let mut state: usize = 0;
+    let mut consonant = false;
+    let mut i = 0;
+    while i < word.len() {
+        let letter = word[i];
+        if letter < 97 {
+            return i;
+        }
+        if 122 < letter {
+            return i;
+        }
+        state = next_state(table, consonant, state, letter);
+        consonant = state % 2 != 1;
+        i += 1;
+        states[i] = state as u8;
+    }
+    i
+}
+
+// Notes the states of a word again behind a place: the letters from there on were written.
+pub fn renew(word: &[u8], states: &mut [u8], from: usize)
+    ensures { λ _. ⌜ now (states .exit) ≡ renewed (now (states .entry)) (now (word .entry)) from ⌝ }
+{
+    if word.len() < from {
+        return;
+    }
+    if states.len() <= word.len() {
+        return;
+    }
+    let table = &CLASS;
+    let mut state = states[from] as usize;
+    if 255 < state + (word.len() - from) {
+        return;
+    }
+    let mut consonant = (0 < from) & (state % 2 != 1);
+    let mut i = from;
+    while i < word.len() {
+        state = next_state(table, consonant, state, word[i]);
+        consonant = state % 2 != 1;
+        i += 1;
+        states[i] = state as u8;
     }
 }
 

@@ -3,7 +3,7 @@ use Prim.Native.Nat.{ℕ, suc, _-_, _<_}
 use native.Mathlib.Nat.{not-suc-le-zero}
 use native.Mathlib.Decide.{decLt}
 use native.Mathlib.Omega.{arith}
-use mathlib.Core.Path.{_≡_}
+use mathlib.Core.Path.{_≡_, refl}
 use mathlib.Core.List.{List, [], _∷_, _++_, reverse, reverse-append, reverse-cons}
 use lib.ListN.{length, getD, length-reverse, List·getD-append}
 use lib.Seq.{getD-append-seam}
@@ -16,6 +16,12 @@ inward-more part letter = reverse-append part (letter ∷ [])
 pub classAt-more : (part : List ℕ) (letter : ℕ) → classAt 0 (part ++ letter ∷ []) ≡ classAfter (classAt 0 part) letter
 unfolding classAt classOf
 classAt-more part letter = rw inward-more
+
+-- where there is no letter
+pub letterAt-none : (part : List ℕ) → length part ≡ 0 → letterAt 0 part ≡ 0
+unfolding letterAt inward
+letterAt-none [] none-there = refl
+letterAt-none (letter ∷ part) none-there = absurd (omega arith)
 
 -- a letter by its place from the front
 pub letterAt-index : (part : List ℕ) (k : ℕ) → k < length part → letterAt k part ≡ getD part (length part - 1 - k) 0

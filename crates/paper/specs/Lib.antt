@@ -17,9 +17,12 @@ pub mod ListLaws
 -- Laws of letters and measure, of reading a group, of going through groups, and of a call on a word, over any rule list
 pub mod LettersLaws
 pub mod States
+pub mod Noted
 pub mod GroupsLaws
 pub mod ReadingLaws
 pub mod LongerFirst
+pub mod FirstFits
+pub mod SameEnding
 pub mod NumberedLaws
 pub mod ChosenLaws
 pub mod TurnLaws

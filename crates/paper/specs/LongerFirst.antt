@@ -2,14 +2,14 @@
 -- the longest S1. Over any rule list.
 use Prim.Native.Nat.{ℕ, _+_, _-_, _≤_}
 use native.Mathlib.Omega.{arith}
-use mathlib.Core.Path.{_≡_, refl, ap, sym, _∙_}
-use mathlib.Core.Bool.{Bool, true, false, cond, not, _&&_, _||_, false≢true}
+use mathlib.Core.Path.{_≡_, ap, sym, _∙_}
+use mathlib.Core.Bool.{Bool, true, false, not, _&&_, _||_, false≢true}
 use mathlib.Core.List.{List, [], _∷_, List·Memᴰ}
 use lib.Dec.{leb}
 use lib.ListN.{length, getD}
 use lib.Seq.{getD-drop}
 use borrow.Author.Tests.{leb-true, leb-false}
-use Rattle.paper.specs.TestLaws.{by-test, and-both, and-parts, or-cases}
+use Rattle.paper.specs.TestLaws.{by-test, and-parts, or-cases}
 use Rattle.paper.specs.Groups.{Rule, endsWith, which, first, fitting, longest, obeyed}
 use Rattle.paper.specs.GroupsLaws.{same-equal, ending-short, ends-yes}
 use Rattle.paper.specs.ReadingLaws.{every, every-in, which-in, longest-at-most, same-fitting, obeys, obeyed-in-turn}
@@ -86,35 +86,3 @@ module _ (word : List ℕ) (rule : Rule) (rules : List Rule) where
 pub longerFirst-rest : (rule : Rule) (rules : List Rule) → longerFirst (rule ∷ rules) ≡ true → longerFirst rules ≡ true
 unfolding longerFirst
 longerFirst-rest rule rules order = and-parts (every (keepsOrder rule) rules) (longerFirst rules) order .1
-
--- ## Some of the rules, in their order
-
-every-which : (test other : Rule → Bool) (rules : List Rule) → every test rules ≡ true → every test (which other rules) ≡ true
-unfolding every which
-every-which test other [] all = refl
-every-which test other (rule ∷ rules) all =
-    let both = and-parts (test rule) (every test rules) all in
-    go (both .0) (every-which test other rules (both .1)) (other rule)
-  where
-    go :
-        test rule ≡ true
-        → every test (which other rules) ≡ true
-        → (passes : Bool)
-        → every test (cond passes (rule ∷ which other rules) (which other rules)) ≡ true
-    go here rest true = and-both here rest
-    go here rest false = rest
-
-pub longerFirst-which : (test : Rule → Bool) (rules : List Rule) → longerFirst rules ≡ true → longerFirst (which test rules) ≡ true
-unfolding longerFirst which
-longerFirst-which test [] order = refl
-longerFirst-which test (rule ∷ rules) order =
-    let both = and-parts (every (keepsOrder rule) rules) (longerFirst rules) order in
-    go (every-which (keepsOrder rule) test rules (both .0)) (longerFirst-which test rules (both .1)) (test rule)
-  where
-    go :
-        every (keepsOrder rule) (which test rules) ≡ true
-        → longerFirst (which test rules) ≡ true
-        → (passes : Bool)
-        → longerFirst (cond passes (rule ∷ which test rules) (which test rules)) ≡ true
-    go here rest true = and-both here rest
-    go here rest false = rest

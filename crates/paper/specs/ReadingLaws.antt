@@ -2,7 +2,7 @@
 use Prim.Native.Nat.{ℕ, _-_, _≤_}
 use native.Mathlib.Omega.{arith}
 use mathlib.Core.Path.{_≡_, refl, ap, sym, subst, _∙_}
-use mathlib.Core.Bool.{Bool, true, false, true≢false, _&&_, and-false}
+use mathlib.Core.Bool.{Bool, true, false, _&&_, and-false}
 use mathlib.Core.List.{List, [], _∷_, _++_, Memᴰ·append-right}
 use mathlib.Core.List.{List·Memᴰ, List·Memᴰ·head, List·Memᴰ·tail, List·Memᴰ·not-nil, List·Memᴰ·cases-cons}
 use mathlib.Core.Logic.{⊎-elim}
@@ -182,19 +182,6 @@ obeyed-in-turn word rules =
     ∙ first-which _ (λ rule. endsWith word (rule .ending)) rules
 
 -- ## Which rules need to be looked at
-
--- rules that cannot end the word may be left out beforehand
-pub narrowed :
-    (word : List ℕ) (test : Rule → Bool) (rules : List Rule)
-    → ((rule : Rule) → List·Memᴰ rule rules → endsWith word (rule .ending) ≡ true → test rule ≡ true)
-    → fitting word (which test rules) ≡ fitting word rules
-unfolding fitting which
-narrowed word test [] needed = refl
-narrowed word test (one ∷ rules) needed =
-    let rest = narrowed word test rules (λ rule m. needed rule (List·Memᴰ·tail m)) in
-    by-test (test one) (λ p. rw (p, which, rest))
-    (λ p. by-test (endsWith word (one .ending)) (λ e. absurd (true≢false (sym (needed one (List·Memᴰ·head refl) e) ∙ p)))
-    (λ e. rw (p, e) rest))
 
 -- what is obeyed depends only on the rules whose S1 the word ends with
 pub same-fitting :

@@ -4,17 +4,19 @@
 use Prim.Native.Nat.{ℕ, suc, _+_, _*_, _-_, _/_, _%_, _≤_, _<_}
 use native.Mathlib.Nat.{le-refl}
 use native.Mathlib.Omega.{arith}
+use native.Mathlib.Decide.{decLe}
 use mathlib.Core.Path.{_≡_, refl, sym, ap, _∙_}
 use mathlib.Core.Bool.{Bool, true, false, cond, not, _&&_, _||_, and-false, Bool·not-not}
-use mathlib.Core.List.{List, [], _∷_, _++_, reverse, append-nil, append-assoc}
+use mathlib.Core.List.{List, [], _∷_, _++_, reverse, append-nil, append-assoc, reverse-append}
 use lib.Dec.{eqb, ltb}
-use lib.ListN.{length, drop, length-drop, length-reverse}
+use lib.ListN.{length, take, drop, getD, length-drop, length-reverse, take-append-drop, drop-of-length-le, List·getD-append}
+use lib.Seq.{drop-at}
 use borrow.Author.Tests.{lt-ltb, le-ltb, eq-eqb, ne-eqb, ltb-true, ltb-false}
 use Rattle.paper.specs.Letters.{letters, among, Class, none, consonant, vowel, isConsonant, isVowel, vowelAfter, classAfter}
 use Rattle.paper.specs.Letters.{inward, classOf, letterAt, classAt, rise, rises, measure}
 use Rattle.paper.specs.LettersLaws.{inward-more}
 use Rattle.paper.specs.TestLaws.{one-if, by-test}
-use Rattle.paper.specs.Conditions.{someVowel, *v*, *d, *o}
+use Rattle.paper.specs.Conditions.{someVowel, *v*, *d, *o, lastIs, conditions, holds}
 
 -- of letters that stand from the last inward
 unfoldable pub stateIn : List ℕ → ℕ
@@ -104,6 +106,23 @@ state-grows part (letter ∷ more) =
     let both : state part ≤ state ((part ++ letter ∷ []) ++ more) = omega (arith, one, rest) in
     rw append-assoc at both
 
+-- it is that of the first letters
+pub state-shorter : (k : ℕ) (part : List ℕ) → stateAt k part ≡ state (take (length part - k) part)
+unfolding state inward
+state-shorter k part = ap stateIn (go (decLe k (length part)))
+  where
+    go : Dec (k ≤ length part) → drop k (reverse part) ≡ reverse (take (length part - k) part)
+    go (yes within) =
+        let n = length part - k in
+        let behind : length (reverse (drop n part)) ≡ k
+        = length-reverse (drop n part) ∙ length-drop n part ∙ omega arith in
+        ap (λ (l : List ℕ). drop k (reverse l)) (sym (take-append-drop n part))
+        ∙ ap (drop k) (reverse-append (take n part) (drop n part))
+        ∙ drop-at (reverse (drop n part)) (reverse (take n part)) k behind
+    go (no beyond) =
+        let none : length part - k ≡ 0 = omega arith in
+        rw none (drop-of-length-le (reverse part) {i = k} (omega (arith, length-reverse part)))
+
 -- ## Conditions
 
 some-vowel : (from-last : List ℕ) → someVowel from-last ≡ ltb 0 (stateIn from-last)
@@ -152,6 +171,11 @@ module _ (part : List ℕ) where
   consonant-at k =
       consonant-by-state (drop k (inward part)) ∙ ap (λ (n : ℕ). ltb 0 n && even (stateAt k part)) (left k)
 
+  -- the last letter is a consonant where there is one and the state is even
+  pub consonant-last : isConsonant (classAt 0 part) ≡ ltb 0 (length part) && even (state part)
+  unfolding state
+  consonant-last = consonant-at 0 ∙ ap (λ (n : ℕ). ltb 0 n && even (state part)) {x = length part - 0} {y = length part} (omega arith)
+
   -- "the last two letters are equal and both consonants"
   pub double-by-states : *d part
       ≡ eqb (letterAt 0 part) (letterAt 1 part) && (ltb 1 (length part) && (even (stateAt 0 part) && even (stateAt 1 part)))
@@ -191,3 +215,55 @@ module _ (part : List ℕ) where
           let more = ltb-true 2 n p in
           rw (p, lt-ltb 0 (n - 0) (omega (arith, more)), lt-ltb 0 (n - 2) (omega (arith, more))))
           (λ p. rw (p, le-ltb 0 (n - 2) (omega (arith, ltb-false 2 n p))))
+
+-- the nine conditions of a part, by its state and those of one and two letters fewer
+module _ (part : List ℕ) (now before earlier : ℕ) where
+  abbrev pub doubleBy : Bool
+  doubleBy = eqb (letterAt 0 part) (letterAt 1 part) && (ltb 1 (length part) && (even now && even before))
+
+  abbrev pub shortBy : Bool
+  shortBy =
+      (ltb 2 (length part) && (even earlier && (not (even before) && even now))) && not (among (letterAt 0 part) (letters "wxy"))
+
+  unfoldable pub conditionsBy : List Bool
+  conditionsBy =
+      true
+      ∷ ltb 1 now
+      ∷ ltb 3 now
+      ∷ ltb 0 now
+      ∷ (ltb 3 now && (lastIs "s" part || lastIs "t" part))
+      ∷ (doubleBy && not (lastIs "l" part || (lastIs "s" part || lastIs "z" part)))
+      ∷ (eqb (now / 2) 1 && shortBy)
+      ∷ (eqb (now / 2) 1 && not shortBy)
+      ∷ (ltb 3 now && (doubleBy && lastIs "l" part))
+      ∷ []
+
+unfoldable pub holdsBy : ℕ → List ℕ → ℕ → ℕ → ℕ → Bool
+holdsBy number part now before earlier = getD (conditionsBy part now before earlier) number false
+
+conditions-by-states : (part : List ℕ) → conditionsBy part (state part) (stateAt 1 part) (stateAt 2 part) ≡ conditions part
+unfolding conditionsBy conditions state
+conditions-by-states part =
+    rw (
+      vowel-from-1 part,
+      double-by-states part,
+      short-by-states part,
+      above-from 0 part,
+      above-from 1 part,
+      measure-by-state part,
+    )
+
+pub holds-by-states :
+    (number : ℕ) (part : List ℕ) → holdsBy number part (state part) (stateAt 1 part) (stateAt 2 part) ≡ holds number part
+unfolding holdsBy holds
+holds-by-states number part = ap (λ (l : List Bool). getD l number false) (conditions-by-states part)
+
+-- the first four look at no letter, and at the state of the whole part alone
+unfoldable pub reachesBy : ℕ → ℕ → Bool
+reachesBy number now = getD (true ∷ ltb 1 now ∷ ltb 3 now ∷ ltb 0 now ∷ []) number false
+
+pub reaches-holds :
+    (number : ℕ) (part : List ℕ) (now before earlier : ℕ) → number < 4 → reachesBy number now ≡ holdsBy number part now before earlier
+unfolding reachesBy holdsBy conditionsBy
+reaches-holds number part now before earlier h =
+    sym (List·getD-append (true ∷ ltb 1 now ∷ ltb 3 now ∷ ltb 0 now ∷ []) (drop 4 (conditionsBy part now before earlier)) false number h)

@@ -66,6 +66,10 @@ pub data Judgement : Type 0 where
 unfoldable pub judged : List ℕ → Judgement
 judged word = cond (wrongLength word) (turnedDown 1 0) (cond (allSmall word) taken (turnedDown 2 0))
 
+-- the same by the word's length and the place of its first byte outside a to z
+unfoldable pub judgedBy : ℕ → ℕ → Judgement
+judgedBy size other = cond (eqb size 0 || ltb 64 size) (turnedDown 1 0) (cond (ltb other size) (turnedDown 2 0) taken)
+
 unfoldable pub readingOutcome : List ℕ → Reading → Outcome
 readingOutcome word (done stem) = record { number = 0; value = length stem; place = placed word stem }
 readingOutcome word outgrown = refused 4 0 word

@@ -3,7 +3,7 @@
 use Prim.Native.Nat.{ℕ, suc, _-_, _≤_, _<_, compare·suc-suc}
 use native.Mathlib.Omega.{arith}
 use mathlib.Core.Path.{_≡_, refl, sym}
-use mathlib.Core.Bool.{true, false, not}
+use mathlib.Core.Bool.{Bool, true, false, cond, not}
 use mathlib.Core.List.{List, [], _∷_, _++_}
 use lib.Dec.{eqb, ltb}
 use lib.ListN.{length, take, drop, getD, replicate}
@@ -12,7 +12,7 @@ use borrow.Author.Tests.{eq-eqb, ne-eqb, lt-ltb, le-ltb, ltb-false}
 use Rattle.paper.specs.Groups.{Reading, done, outgrown}
 use Rattle.paper.specs.TestLaws.{by-test, or-right, neither-right}
 use Rattle.paper.specs.Words.{placed, wrongLength, small, allSmall, firstOther, Gives}
-use Rattle.paper.specs.Words.{taken, turnedDown, judged, readingOutcome, judgedOutcome, wordOutcome}
+use Rattle.paper.specs.Words.{taken, turnedDown, judged, judgedBy, readingOutcome, judgedOutcome, wordOutcome}
 
 -- ## The first byte outside a to z
 
@@ -56,6 +56,17 @@ module _ (word : List ℕ) where
     pub judged-taken : allSmall word ≡ true → judged word ≡ taken
     unfolding judged wrongLength
     judged-taken all = rw (ne-eqb (length word) 0 some, le-ltb 64 (length word) most, all)
+
+  pub judged-by : judgedBy (length word) (firstOther word) ≡ judged word
+  unfolding judgedBy judged wrongLength
+  judged-by = rw (other-inside word) (go (wrongLength word) (allSmall word))
+    where
+      go : (wrong all : Bool)
+          → cond wrong (turnedDown 1 0) (cond (not all) (turnedDown 2 0) taken)
+          ≡ cond wrong (turnedDown 1 0) (cond all taken (turnedDown 2 0))
+      go true all = refl
+      go false true = refl
+      go false false = refl
 
 pub taken-short : (word : List ℕ) → taken ≡ judged word → length word ≤ 64
 unfolding judged wrongLength

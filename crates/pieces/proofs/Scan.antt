@@ -2,7 +2,7 @@
 use Prim.Native.Nat.{ℕ, suc, _+_, _≤_, _<_}
 use mathlib.Core.Path.{_≡_}
 use mathlib.Core.Bool.{true, false}
-use mathlib.Core.List.{List}
+use mathlib.Core.List.{List, [], _∷_}
 use native.Mathlib.Numerals.{add-one}
 use lib.ListN.{length, drop, getD, drop-of-length-le}
 use lib.Seq.{drop-cons}
@@ -22,19 +22,19 @@ module _ (text : List ℕ) (at : ℕ) where
         rw (add-one at, drop-cons text at 0 inside) (gap-other (getD text at 0) (drop (suc at) text) separates)
 
     pub leading-at-letter : isLetter (getD text at 0) ≡ true
-        → length (leading (drop at text)) ≡ suc (length (leading (drop (at + 1) text)))
+        → leading (drop at text) ≡ getD text at 0 ∷ leading (drop (at + 1) text)
     leading-at-letter letter =
-        rw (add-one at, drop-cons text at 0 inside, leading-letter (getD text at 0) (drop (suc at) text) letter)
+        rw (add-one at, drop-cons text at 0 inside) (leading-letter (getD text at 0) (drop (suc at) text) letter)
 
-    pub leading-at-other : isLetter (getD text at 0) ≡ false → length (leading (drop at text)) ≡ 0
+    pub leading-at-other : isLetter (getD text at 0) ≡ false → leading (drop at text) ≡ []
     leading-at-other separates =
-        rw (drop-cons text at 0 inside, leading-other (getD text at 0) (drop (suc at) text) separates)
+        rw (drop-cons text at 0 inside) (leading-other (getD text at 0) (drop (suc at) text) separates)
 
   module _ (past : length text ≤ at) where
     pub gap-at-end : gap (pieces (drop at text)) ≡ 0
     unfolding gap pieces
     gap-at-end = rw (drop-of-length-le text past)
 
-    pub leading-at-end : length (leading (drop at text)) ≡ 0
+    pub leading-at-end : leading (drop at text) ≡ []
     unfolding leading
     leading-at-end = rw (drop-of-length-le text past)

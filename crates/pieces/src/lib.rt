@@ -1,7 +1,9 @@
 // What a word of a text is: its letters, where the next one starts and ends, and the next one as a part of the caller's own
 // text. Document 01, "The text run", decides; `specs/` writes it down.
 ghost use mathlib.Core.Path.{_≡_};
-ghost use Rattle.pieces.specs.Pieces.{isLetter};
+ghost use lib.ListN.{drop};
+ghost use Rattle.paper.specs.Words.{allSmall};
+ghost use Rattle.pieces.specs.Pieces.{isLetter, leading};
 ghost use Rattle.pieces.specs.Next.{nextWordAt, wordEnd, NextWord};
 
 // Whether words are made of this byte: A to Z and a to z. With the bit of 32 a letter is small.
@@ -32,19 +34,29 @@ pub fn next_word_at(text: &[u8], from: usize) -> usize
     at
 }
 
-// The end of the letters that stand from a place on.
-pub fn word_end(text: &[u8], from: usize) -> usize
-    ensures { λ r. ⌜ r ≡ wordEnd (now (text .entry)) from ⌝ }
+// The end of the letters that stand from a place on, and whether all of them are small.
+pub struct Run {
+    pub end: usize,
+    pub small: bool,
+}
+
+// Both are found in one pass, so that who makes capitals small need not look for them again.
+pub fn word_run(text: &[u8], from: usize) -> Run
+    ensures { λ r. ⌜ r .end ≡ wordEnd (now (text .entry)) from ⌝ }
+    ensures { λ r. ⌜ r .small ≡ allSmall (leading (drop from (now (text .entry)))) ⌝ }
 {
     let mut end = from;
+    let mut small = true;
     while end < text.len() {
-        if is_letter(text[end]) {
+        let byte = text[end];
+        if is_letter(byte) {
+            small = small & (96 < byte);
             end += 1;
         } else {
-            return end;
+            return Run { end, small };
         }
     }
-    end
+    Run { end, small }
 }
 
 // The next word, as a part of the caller's own text; empty where none follows.
@@ -52,6 +64,6 @@ pub fn next_word(text: &[u8], from: usize) -> &[u8]
     ensures { λ r. ⌜ NextWord (text .entry) from r ⌝ }
 {
     let start = next_word_at(text, from);
-    let end = word_end(text, start);
+    let end = word_run(text, start).end;
     &text[start..end]
 }

@@ -1,6 +1,8 @@
 -- What the proofs of this crate share.
-pub mod Joined
-pub mod Candidates
-pub mod InTurn
-pub mod Columns
-pub mod Turns
+pub mod Endings
+pub mod Cuts
+pub mod Chosen
+pub mod Literal
+pub mod Tests
+pub mod Narrow
+pub mod Reading

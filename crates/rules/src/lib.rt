@@ -1,89 +1,71 @@
 // The shipped rules of document 01 as constant tables: "The list is held as a constant table". Each table is handed out by a
 // function whose contract ties it to the list in `paper`.
 ghost use mathlib.Core.Path.{_≡_};
-ghost use Rattle.rules.specs.Tables.{endingLetters, endingStarts, replacementLetters, replacementStarts, conditionDigits};
-ghost use Rattle.rules.specs.Tables.{singles as singlesOf, openings as openingsOf, gateDigits, candidateNumbers, candidateStarts};
+ghost use Rattle.paper.specs.Shipped.{group-1a, group-1b, follow-up, group-1c, group-2, group-3, group-4, group-5a, group-5b};
+ghost use Rattle.rules.specs.Rows.{rowsOf};
 
-mod columns;
-mod index;
+mod rows;
 
-use columns::CONDITIONS;
-use columns::ENDING_STARTS;
-use columns::ENDINGS;
-use columns::GATES;
-use columns::OPENS;
-use columns::REPLACEMENT_STARTS;
-use columns::REPLACEMENTS;
-use columns::SINGLE;
-use index::CANDIDATE_STARTS;
-use index::CANDIDATES;
+use rows::FOLLOW_UP;
+use rows::GROUP_1A;
+use rows::GROUP_1B;
+use rows::GROUP_1C;
+use rows::GROUP_2;
+use rows::GROUP_3;
+use rows::GROUP_4;
+use rows::GROUP_5A;
+use rows::GROUP_5B;
 
-// The letters of the endings, one after the other.
-pub fn endings() -> [u8; 222]
-    ensures { λ r. ⌜ r ≡ endingLetters ⌝ }
+pub fn group_1a() -> [u8; 64]
+    ensures { λ r. ⌜ r ≡ rowsOf group-1a ⌝ }
 {
-    ENDINGS
+    GROUP_1A
 }
 
-// Where the ending of each rule starts among them, and the end of the last.
-pub fn ending_starts() -> [u8; 63]
-    ensures { λ r. ⌜ r ≡ endingStarts ⌝ }
+pub fn group_1b() -> [u8; 48]
+    ensures { λ r. ⌜ r ≡ rowsOf group-1b ⌝ }
 {
-    ENDING_STARTS
+    GROUP_1B
 }
 
-// The letters of the replacements, in the same way.
-pub fn replacements() -> [u8; 85]
-    ensures { λ r. ⌜ r ≡ replacementLetters ⌝ }
+pub fn follow_up() -> [u8; 80]
+    ensures { λ r. ⌜ r ≡ rowsOf follow-up ⌝ }
 {
-    REPLACEMENTS
+    FOLLOW_UP
 }
 
-// Where the replacement of each rule starts among them, and the end of the last.
-pub fn replacement_starts() -> [u8; 63]
-    ensures { λ r. ⌜ r ≡ replacementStarts ⌝ }
+pub fn group_1c() -> [u8; 16]
+    ensures { λ r. ⌜ r ≡ rowsOf group-1c ⌝ }
 {
-    REPLACEMENT_STARTS
+    GROUP_1C
 }
 
-// The rules' conditions, a digit each.
-pub fn conditions() -> [u8; 62]
-    ensures { λ r. ⌜ r ≡ conditionDigits ⌝ }
+pub fn group_2() -> [u8; 320]
+    ensures { λ r. ⌜ r ≡ rowsOf group-2 ⌝ }
 {
-    CONDITIONS
+    GROUP_2
 }
 
-// 1 for a rule that leaves a single letter of two.
-pub fn singles() -> [u8; 62]
-    ensures { λ r. ⌜ r ≡ singlesOf ⌝ }
+pub fn group_3() -> [u8; 112]
+    ensures { λ r. ⌜ r ≡ rowsOf group-3 ⌝ }
 {
-    SINGLE
+    GROUP_3
 }
 
-// 1 for a rule that opens the next group.
-pub fn openings() -> [u8; 62]
-    ensures { λ r. ⌜ r ≡ openingsOf ⌝ }
+pub fn group_4() -> [u8; 304]
+    ensures { λ r. ⌜ r ≡ rowsOf group-4 ⌝ }
 {
-    OPENS
+    GROUP_4
 }
 
-// The gate of each group.
-pub fn gates() -> [u8; 9]
-    ensures { λ r. ⌜ r ≡ gateDigits ⌝ }
+pub fn group_5a() -> [u8; 32]
+    ensures { λ r. ⌜ r ≡ rowsOf group-5a ⌝ }
 {
-    GATES
+    GROUP_5A
 }
 
-// For each group and each column, the rules that a word with such a last letter may obey.
-pub fn candidates() -> [u8; 104]
-    ensures { λ r. ⌜ r ≡ candidateNumbers ⌝ }
+pub fn group_5b() -> [u8; 16]
+    ensures { λ r. ⌜ r ≡ rowsOf group-5b ⌝ }
 {
-    CANDIDATES
-}
-
-// Where those of a group and a column start, and the end of the last.
-pub fn candidate_starts() -> [u8; 136]
-    ensures { λ r. ⌜ r ≡ candidateStarts ⌝ }
-{
-    CANDIDATE_STARTS
+    GROUP_5B
 }

@@ -5,7 +5,7 @@ ghost use Prim.Native.Nat.{_≤_};
 ghost use mathlib.Core.Bool.{true};
 ghost use mathlib.Core.List.{map};
 ghost use lib.ListN.{length};
-ghost use Rattle.paper.specs.Words.{stem};
+ghost use Rattle.paper.specs.Words.{allSmall, stem};
 ghost use Rattle.pieces.specs.Pieces.{lowered};
 ghost use Rattle.pieces.specs.LongestRuns.{allLetters, IsWord};
 ghost use Rattle.texts.specs.Texts.{ofWord, stemmedTo, textOutcome};
@@ -24,13 +24,16 @@ fn make_small(word: &mut [u8])
     }
 }
 
-// A word of 1 to 64 letters, made small and stemmed in its own place.
-fn stem_word(word: &mut [u8])
+// A word of 1 to 64 letters, made small and stemmed in its own place. Who found it says whether its letters are small already.
+fn stem_word(word: &mut [u8], small: bool)
     requires { ⌜ IsWord (now word) ⌝ }
     requires { ⌜ length (now word) ≤ 64 ⌝ }
+    requires { ⌜ small ≡ allSmall (now word) ⌝ }
     ensures { λ _. ⌜ ofWord stem (now (word .entry)) ≡ stemmedTo (now (word .exit)) ⌝ }
 {
-    make_small(word);
+    if !small {
+        make_small(word);
+    }
     words::stem(word);
 }
 
@@ -46,11 +49,12 @@ pub fn run(text: &mut [u8]) -> TextRun
     let mut at: usize = 0;
     while at < text.len() {
         let start = pieces::next_word_at(&text[..], at);
-        let end = pieces::word_end(&text[..], start);
+        let next = pieces::word_run(&text[..], start);
+        let end = next.end;
         if 64 < end - start {
             left += 1;
         } else if start < end {
-            stem_word(&mut text[start..end]);
+            stem_word(&mut text[start..end], next.small);
             stemmed += 1;
         }
         at = end;

@@ -8,13 +8,13 @@ use answers::Judged;
 pub fn stem(word: &mut [u8]) -> Answer
     ensures { λ r. ⌜ Gives (outcome (now (word .entry))) (numberOf r) (valueOf r) (now (word .exit)) ⌝ }
 {
-    let judged = answers::judge(&word[..]);
+    let read = readings::read(word);
+    let judged = answers::judge_by(word.len(), read.other);
     match judged {
         Judged::Refused(answer) => answer,
         Judged::Taken => {
-            let len = readings::read(word);
-            places::fill(word, len);
-            Answer::Done(len)
+            places::fill(word, read.len);
+            Answer::Done(read.len)
         }
     }
 }

@@ -4,7 +4,7 @@ use borrow.Author.Tests.{ne-eqb}
 use mathlib.Core.Path.{sym, _∙_}
 use mathlib.Core.Bool.{and-false}
 use Rattle.paper.specs.Conditions.{lastIs, conditions, holds}
-use Rattle.paper.specs.States.{above-from, vowel-from-1}
+use Rattle.paper.specs.States.{above-from, vowel-from-1, holds-by-states}
 use Rattle.letters.proofs.holds.Statement.{statement}
 use Rattle.letters.proofs.holds.Tie as tie
 
@@ -49,7 +49,9 @@ unfolding holds conditions lastIs
 returns-5 c = rw (c .before .match .keys4) (c .above3 .ensures ∙ sym (vowel-from-1 _))
 
 returns-6 : tie.Need-returns-6
-returns-6 c = search needs
+returns-6 c =
+    let a = c .before .before .before .before .before .args in
+    cc (holds-by-states (a .condition) (a .part .now))
 
 pub holds-spec : {M : Type 1} → statement M
 holds-spec =

@@ -2,26 +2,23 @@
 use borrow.Author.Needs.{needs}
 use native.Mathlib.Omega.{arith}
 use mathlib.Core.Path.{sym, ap, _∙_}
-use mathlib.Core.Bool.{Bool, false}
+use mathlib.Core.Bool.{Bool, false, _&&_, _||_}
 use mathlib.Core.List.{List, []}
 use lib.ListN.{getD}
 use Prim.Native.Nat.{_-_}
-use Rattle.letters.specs.Scan.{beforeRow}
+use Rattle.paper.specs.Noted.{classBefore}
 use Rattle.letters.proofs.Classes.{below-a, above-z, in-table}
 use Rattle.letters.proofs.vowel_after.Statement.{statement}
 use Rattle.letters.proofs.vowel_after.Tie as tie
 
 returns : tie.Need-returns
-returns c = sym (below-a (beforeRow (c .before .args .row)) (c .before .args .letter) (c .if1 .taken))
+returns c = sym (below-a (classBefore (c .before .args .consonant)) (c .before .args .letter) (c .if1 .taken))
 
 returns-2 : tie.Need-returns-2
-returns-2 c = sym (above-z (beforeRow (c .before .before .args .row)) (c .before .before .args .letter) (c .if2 .taken))
+returns-2 c = sym (above-z (classBefore (c .before .before .args .consonant)) (c .before .before .args .letter) (c .if2 .taken))
 
 cast-column : tie.Need-cast-column
 cast-column c = search needs
-
-mul-result : tie.Need-mul-result
-mul-result c = search needs
 
 index-1-result : tie.Need-index-1-result
 index-1-result c = search needs
@@ -29,12 +26,21 @@ index-1-result c = search needs
 index-2-result : tie.Need-index-2-result
 index-2-result c = search needs
 
+index-1-result-2 : tie.Need-index-1-result-2
+index-1-result-2 c = search needs
+
+index-2-result-2 : tie.Need-index-2-result-2
+index-2-result-2 c = search needs
+
 returns-3 : tie.Need-returns-3
 returns-3 c =
-    let a = c .before .before .before .args in
-    ap (λ (t : List (List Bool)). getD (getD t (a .row) []) (a .letter - 97) false) (c .before .before .before .pre .0)
-    ∙ in-table (a .row) (a .letter) (c .before .before .before .pre .1) (omega arith) (omega arith)
+    let start = c .before .before .before .before in
+    let a = start .args in
+    ap (λ (t : List (List Bool)). getD (getD t 0 []) (a .letter - 97) false || (getD (getD t 1 []) (a .letter - 97) false && a .consonant))
+    (start .pre)
+    ∙ in-table (a .consonant) (a .letter) (omega arith) (omega arith)
 
 pub vowel-after-spec : {M : Type 1} → statement M
 vowel-after-spec =
-    tie.close (tie.spec returns returns-2 cast-column mul-result index-1-result index-2-result returns-3)
+    tie.close
+    (tie.spec returns returns-2 cast-column index-1-result index-2-result index-1-result-2 index-2-result-2 returns-3)

@@ -12,8 +12,8 @@ use Rattle.pieces.proofs.next_word.Tie as tie
 next-word-at-requires : tie.Need-next-word-at-requires
 next-word-at-requires c κs = search needs
 
-word-end-requires : tie.Need-word-end-requires
-word-end-requires c κs = search needs
+word-run-requires : tie.Need-word-run-requires
+word-run-requires c κs = search needs
 
 sub-result : tie.Need-sub-result
 sub-result c = search needs
@@ -24,7 +24,7 @@ part-result-start c = search needs
 part-result-end : tie.Need-part-result-end
 part-result-end c =
     let text = c .before .before .before .args .text .now in
-    part-within text (c .before .next-word-at .result) _ (c .word-end .ensures)
+    part-within text (c .before .next-word-at .result) _ (c .word-run .ensures .0)
     (omega (arith, next-within text (c .before .before .before .args .from)))
 
 returns : tie.Need-returns
@@ -33,7 +33,7 @@ returns c =
     let offset = c .before .before .next-word-at .ensures in
     record {
       letters =
-          part-leading (args .text .now) _ _ (c .before .word-end .ensures)
+          part-leading (args .text .now) _ _ (c .before .word-run .ensures .0)
           ∙ ap (λ n. leading (drop n (args .text .now))) offset
           ∙ sym (next-leading (args .text .now) (args .from));
       place = ap (λ n. (args .text .ptr .0, n + args .text .ptr .1)) offset;
@@ -42,4 +42,4 @@ returns c =
 pub next-word-spec : {M : Type 1} → statement M
 next-word-spec =
     tie.close
-    (tie.spec next-word-at-requires word-end-requires sub-result part-result-start part-result-end returns)
+    (tie.spec next-word-at-requires word-run-requires sub-result part-result-start part-result-end returns)

@@ -1,110 +1,84 @@
--- `readings::read_by` meets its contract: at the loop's head what is left to read gives the stem.
-use Prim.Native.Nat.{ℕ, _-_, _≤_, _<_}
+-- `readings::read_by` meets its contract: each step is read on what the one before left.
+use Prim.Native.Nat.{ℕ}
 use borrow.Author.Needs.{needs}
 use native.Mathlib.Omega.{arith}
-use mathlib.Core.Path.{_≡_, refl, sym, ap, _∙_}
-use mathlib.Core.Bool.{true, false, _||_}
-use mathlib.Core.List.{List, [], map}
-use mathlib.Core.Logic.{⊎-elim}
-use lib.Dec.{eqb}
-use lib.ListN.{length, take, drop, getD}
-use lib.Seq.{take-length, length-take-le}
-use Rattle.paper.specs.Shipped.{shipped}
-use Rattle.paper.specs.Groups.{Group, readTurn, steps, reading, through}
-use Rattle.paper.specs.Words.{readWord, stem}
-use Rattle.rules.specs.Tables.{gateDigits, Column}
-use Rattle.readings.proofs.Turns.{Left-to-read, passed-over, result-fits, read-on}
-use Rattle.readings.proofs.Columns.{gate-count}
+use mathlib.Core.Path.{_≡_, sym, ap, _∙_}
+use mathlib.Core.List.{List}
+use lib.ListN.{take}
+use lib.Seq.{length-take-le, take-take}
+use Rattle.paper.specs.Groups.{done}
+use Rattle.paper.specs.Shipped.{group-1a, group-1b, follow-up, group-1c, group-2, group-3, group-4, group-5a, group-5b}
+use Rattle.readings.specs.Steps.{leaves, leavesOpened}
+use Rattle.readings.proofs.Chosen.{shorter}
+use Rattle.readings.proofs.Reading.{shipped-reads}
 use Rattle.readings.proofs.read_by.Statement.{statement}
 use Rattle.readings.proofs.read_by.Tie as tie
 
-abbrev Inv-loop : tie.InvT-loop
-Inv-loop word₀ gates candidates blocks endings starts conditions len₀ column₀ opened₀ group₀ word len column opened group =
-    (group ≤ 9)
-    × (len ≤ length word)
-    × (length word ≡ length word₀)
-    × Left-to-read word₀ group opened (take len word)
-    × Column (take len word) column
+-- where each step ended
+abbrev third-of : tie.After-cut-last → tie.After-step-1c
+third-of c = c .before .before .before .before .before .before .before .before .before .before .before .before .before .before
 
-abbrev μ-loop : tie.MeasureT-loop
-μ-loop word₀ gates candidates blocks endings starts conditions len₀ column₀ opened₀ group₀ word len column opened group = 9 - group
+abbrev opened-of : tie.After-cut-last → tie.After-step-1b
+opened-of c = third-of c .before .before .before .before .before .before .before
 
-column-of-requires : tie.Need-column-of-requires Inv-loop μ-loop
-column-of-requires c κs = search needs
+abbrev first-of : tie.After-cut-last → tie.After-step-1a
+first-of c = opened-of c .before .before .before
 
-loop-holds : tie.Need-loop-holds Inv-loop μ-loop
-unfolding stem readWord
-loop-holds c =
-    let s = c .before .before .before .before .before .before .before .before .before in (
-      omega arith,
-      omega arith,
-      refl,
-      ap (through (length (s .args .word .now)) (map readTurn shipped) false) (take-length (s .args .word .now)),
-      rw (take-length (s .args .word .now)) (c .column-of .ensures),
-    )
+step-1a-requires : tie.Need-step-1a-requires
+step-1a-requires c κs = search needs
 
-shared-slice-read-if1 : tie.Need-shared-slice-read-if1 Inv-loop μ-loop
-shared-slice-read-if1 c = let s = c .before .before .before .before .before .before .before .before .before .before .before .before in
-    omega (arith, ap length (s .pre .0 .0), gate-count)
+step-1b-requires : tie.Need-step-1b-requires
+step-1b-requires c κs =
+    let s = c .before .before .before .before .before .before in
+    let word = s .args .word .now in
+    let first = c .before .before .step-1a in
+    let fits = rw (← first .ensures .left) at (shipped-reads word .0) in
+    (shorter (s .pre) (first .result) (first .ensures .within), fits)
 
-turn-requires : tie.Need-turn-requires Inv-loop μ-loop
-turn-requires c κs =
-    let s = c .before .before .before .before .before .before .before .before .before .before .before .before .before .before in
-    let at = c .before .before .before .before .loop in
-    let given = s .args .word .now in
-    let word = at .word in
-    let run : (eqb (getD gateDigits (at .group) 0) 48 || at .opened) ≡ true = rw (s .pre .0 .0) at (c .before .if1 .taken) in
-    let fits = result-fits given (at .group) (omega arith) (at .opened) (take (at .len) word) (at .inv .3) run in
-    ((omega arith, s .pre .0 .1), (s .pre .1, ((at .inv .1, at .inv .4), omega (arith, fits, at .inv .2))))
+step-1c-requires : tie.Need-step-1c-requires
+step-1c-requires c κs = search needs
 
-add-group : tie.Need-add-group Inv-loop μ-loop
-add-group c = omega arith
+step-2-requires : tie.Need-step-2-requires
+step-2-requires c κs = search needs
 
-loop-less : tie.Need-loop-less Inv-loop μ-loop
-loop-less c = omega arith
+slice-reshare-prefix-cut-last : tie.Need-slice-reshare-prefix-cut-last
+slice-reshare-prefix-cut-last c = search needs
 
-loop-again : tie.Need-loop-again Inv-loop μ-loop
-loop-again c =
-    let s = c .before .before .before .before .before .before .before .before .before .before .before .before .before in
-    let at = c .before .before .before .loop in
-    let given = s .args .word .now in
-    let known : at .group < 9 = omega arith in
-    ⊎-elim
-    (λ w.
-    let run : (eqb (getD gateDigits (at .group) 0) 48 || at .opened) ≡ true = rw (s .pre .0 .0) at (w .0 .taken) in
-    let next = read-on given (at .group) known (at .opened) (take (at .len) (at .word)) (at .inv .3) run in
-    let kept : length (w .2 .last .0) ≡ length (at .word) = w .2 .kept .0 in (
-      omega arith,
-      rw (w .5, w .6) (omega (arith, kept, w .2 .ensures .1 .0 .0)),
-      rw (w .5) (kept ∙ at .inv .2),
-      rw (w .5, w .6, w .8, w .2 .ensures .0, w .2 .ensures .1 .1) next,
-      rw (w .5, w .6, w .7) (w .2 .ensures .1 .0 .1),
-    ))
-    (λ w.
-    let closed : (eqb (getD gateDigits (at .group) 0) 48 || at .opened) ≡ false = rw (s .pre .0 .0) at (w .0 .left) in
-    let next = passed-over given (at .group) known (at .opened) (take (at .len) (at .word)) (at .inv .3) closed
-    (omega (arith, length-take-le (at .len) (at .word) (at .inv .1))) in
-    (omega arith, rw (w .1, w .2) (at .inv .1), rw (w .1) (at .inv .2), rw (w .1, w .2, w .4) next, rw (w .1, w .2, w .3) (at .inv .4)))
-    (c .if1 .came)
+slice-aggregate-cut-last : tie.Need-slice-aggregate-cut-last
+slice-aggregate-cut-last c = sym (length-take-le _ _ (c .before .before .before .before .before .step-2 .ensures .1 .within))
 
-same-length : tie.Need-same-length Inv-loop μ-loop
-same-length c = c .before .loop .inv .2
+cut-last-requires : tie.Need-cut-last-requires
+cut-last-requires c κs = search needs
 
-returns : tie.Need-returns Inv-loop μ-loop
-unfolding steps reading shipped
+same-length : tie.Need-same-length
+same-length c = search needs
+
+same-length-2 : tie.Need-same-length-2
+same-length-2 c = search needs
+
+returns : tie.Need-returns
 returns c =
-    let s = c .before .before .before .before .before .before .before .before .before .before .before in
-    let at = c .before .loop in
-    let end : at .group ≡ 9 = omega arith in
-    let nothing-left : drop (at .group) shipped ≡ [] = ap (λ (k : ℕ). drop k shipped) end in (
-      sym (at .inv .3)
-          ∙ ap (λ (groups : List Group). through (length (s .args .word .now)) (map readTurn groups) (at .opened)
-          (take (at .len) (at .word))) nothing-left,
-      omega arith,
+    let word = first-of c .before .before .before .before .args .word .now in
+    let after-1a = first-of c .step-1a in
+    let after-1b = opened-of c .step-1b in
+    let after-1c = third-of c .step-1c in
+    let after-2 = c .before .before .before .before .before .before .before .step-2 in
+    let stands = after-2 .ensures .1 in
+    let there = length-take-le (after-2 .result) (after-2 .last .0) (stands .within) in
+    let left : take (after-2 .result) (after-2 .last .0)
+    ≡ leaves group-2 (leaves group-1c (leavesOpened group-1b follow-up (leaves group-1a word)))
+    = rw (← after-1a .ensures .left, ← after-1b .ensures .0, ← after-1c .ensures .0) (after-2 .ensures .0) in
+    let short = c .cut-last .ensures .1 in
+    let front = take-take (c .cut-last .result) (after-2 .result) (after-2 .last .0) (omega (arith, there, short)) in
+    let last = sym front
+    ∙ c .cut-last .ensures .0
+    ∙ ap (λ (l : List ℕ). leaves group-5b (leaves group-5a (leaves group-4 (leaves group-3 l)))) left in (
+      omega (arith, there, short, stands .within, after-2 .kept .0, after-1c .kept .0, after-1b .kept .0),
+      shipped-reads word .1 ∙ ap done (sym last),
     )
 
 pub read-by-spec : {M : Type 1} → statement M
 read-by-spec =
     tie.close
-    (tie.spec Inv-loop μ-loop column-of-requires loop-holds shared-slice-read-if1 turn-requires add-group loop-less loop-again same-length
-    returns)
+    (tie.spec step-1a-requires step-1b-requires step-1c-requires step-2-requires slice-reshare-prefix-cut-last slice-aggregate-cut-last
+    cut-last-requires same-length same-length-2 returns)

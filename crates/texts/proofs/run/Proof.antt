@@ -1,14 +1,14 @@
 -- `texts::run` meets its contract. The loop's invariant: what is done before `at` and the text run of what stands behind it
 -- are together the text run of the whole text.
 use Prim.Native.Nat.{_+_, _-_, _≤_}
-use mathlib.Core.Path.{_≡_, refl, sym, _∙_}
+use mathlib.Core.Path.{_≡_, refl, sym, ap, _∙_}
 use native.Mathlib.Omega.{arith}
 use lib.ListN.{length, length-take}
-use Rattle.paper.specs.Words.{stem}
+use Rattle.paper.specs.Words.{allSmall, stem}
 use Rattle.texts.specs.Texts.{runText}
 use Rattle.texts.specs.OutcomeLaws.{gives-refused, gives-done}
 use Rattle.texts.specs.TextsLaws.{nothing-then}
-use Rattle.pieces.specs.NextLaws.{Found, end-within, length-after, turn-on, part-word}
+use Rattle.pieces.specs.NextLaws.{Found, end-within, length-after, turn-on, part-leading, part-word}
 use Rattle.texts.proofs.Turn.{whole, whole-done, turn-left, turn-stemmed, turn-none}
 use Rattle.texts.proofs.run.Statement.{statement}
 use Rattle.texts.proofs.run.Tie as tie
@@ -23,17 +23,17 @@ Inv-loop text₀ stemmed₀ left₀ at₀ text stemmed left at =
 abbrev μ-loop : tie.MeasureT-loop
 μ-loop text₀ stemmed₀ left₀ at₀ text stemmed left at = length text₀ - at
 
-found : (c : tie.After-word-end Inv-loop μ-loop)
+found : (c : tie.After-word-run Inv-loop μ-loop)
     → Found
     (c .before .before .before .before .before .loop .text)
     (c .before .before .before .before .before .loop .at)
     (c .before .before .next-word-at .result)
-    (c .word-end .result)
+    (c .word-run .result .end)
 found c =
     record {
       inside = c .before .before .before .before .loop-test .taken;
       next = c .before .before .next-word-at .ensures;
-      ends = c .word-end .ensures;
+      ends = c .word-run .ensures .0;
     }
 
 returns : tie.Need-returns Inv-loop μ-loop
@@ -45,8 +45,8 @@ loop-holds c = (omega arith, refl, omega arith, nothing-then (runText stem (c .b
 next-word-at-requires : tie.Need-next-word-at-requires Inv-loop μ-loop
 next-word-at-requires c κs = tt
 
-word-end-requires : tie.Need-word-end-requires Inv-loop μ-loop
-word-end-requires c κs = tt
+word-run-requires : tie.Need-word-run-requires Inv-loop μ-loop
+word-run-requires c κs = tt
 
 sub-if2 : tie.Need-sub-if2 Inv-loop μ-loop
 sub-if2 c = omega (arith, found c .ends)
@@ -64,7 +64,12 @@ part-stem-word-end : tie.Need-part-stem-word-end Inv-loop μ-loop
 part-stem-word-end c = end-within (found (c .before .before))
 
 stem-word-requires : tie.Need-stem-word-requires Inv-loop μ-loop
-stem-word-requires c κs = (part-word (found (c .before .before .before)) (omega arith), simp length-take (omega arith))
+stem-word-requires c κs =
+    let f = found (c .before .before .before) in
+    let small = c .before .before .before .word-run .ensures .1 in (
+      part-word f (omega arith),
+      (simp length-take (omega arith), small ∙ ap allSmall (sym (part-leading _ _ _ (f .ends)))),
+    )
 
 add-stemmed : tie.Need-add-stemmed Inv-loop μ-loop
 add-stemmed c =
@@ -126,6 +131,6 @@ returns-2 c =
 pub run-spec : {M : Type 1} → statement M
 run-spec =
     tie.close
-    (tie.spec Inv-loop μ-loop returns loop-holds next-word-at-requires word-end-requires sub-if2 add-left sub-stem-word
+    (tie.spec Inv-loop μ-loop returns loop-holds next-word-at-requires word-run-requires sub-if2 add-left sub-stem-word
     part-stem-word-start part-stem-word-end stem-word-requires add-stemmed loop-less loop-again loop-less-2 loop-again-2 loop-less-3
     loop-again-3 same-length returns-2)

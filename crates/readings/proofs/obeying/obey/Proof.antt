@@ -1,105 +1,140 @@
--- `readings::obeying::obey` meets its contract.
-use Prim.Native.Nat.{ℕ, _-_, _≤_}
+-- `readings::obeying::obey` meets its contract: what was put follows the part, and the scan of its letters goes on from the part's state.
+use Prim.Native.Nat.{ℕ, _+_, _-_, _*_, _≤_}
 use borrow.Author.Needs.{needs}
-use borrow.Author.Tests.{eqb-true}
+use borrow.Author.Tests.{le-leb, lt-ltb}
 use native.Mathlib.Omega.{arith}
 use mathlib.Core.Path.{_≡_, refl, sym, ap, _∙_}
-use mathlib.Core.Bool.{true, false, true≢false}
-use mathlib.Core.List.{List, [], _∷_, _++_, append-nil}
-use lib.Dec.{eqb}
-use lib.ListN.{length, take}
-use lib.Seq.{length-take-le, take-take}
-use Rattle.paper.specs.Groups.{Action, replace, single-letter, written, numberOfAction, act}
-use Rattle.rules.specs.Tables.{ruleAt}
+use mathlib.Core.List.{List, _++_}
+use lib.ListN.{length, take, getD, length-append}
+use lib.Seq.{length-take-le, take-take, take-length, drop-append-seam}
+use Rattle.paper.specs.States.{state}
+use Rattle.paper.specs.Noted.{endsInConsonant, length-after, Noted, noted-at, noted-part, noted-more, state-most}
+use Rattle.letters.specs.Notes.{renewed}
+use Rattle.places.specs.Put.{putAt, put-behind}
+use Rattle.rules.specs.Rows.{writtenAt}
+use Rattle.readings.specs.Steps.{Stands}
+use Rattle.readings.proofs.Endings.{written-size, written-read}
 use Rattle.readings.proofs.obeying.obey.Statement.{statement}
 use Rattle.readings.proofs.obeying.obey.Tie as tie
 
-act-single :
-    (action : Action) (word : List ℕ) (part : ℕ)
-    → eqb (numberOfAction action) 1 ≡ true
-    → part ≤ length word
-    → act action (take part word) ≡ take (part - 1) word
-unfolding act
-act-single (replace s2) word part e fits = absurd (true≢false (sym e))
-act-single single-letter word part e fits = rw (length-take-le part word fits) (take-take (part - 1) part word (omega arith))
+-- letters behind a part that is noted, and their states
+renewed-noted : (part letters states : List ℕ) (k : ℕ) → Noted part states → k ≡ length part → k + length letters ≤ 64
+    → length states ≡ 65
+    → Noted (part ++ letters) (renewed states (part ++ letters) k)
+unfolding renewed
+renewed-noted part letters states k noted is short room =
+    let here : getD states (length part) 0 ≡ state part
+    = noted-at part states noted (length part) (omega arith) ∙ ap state (take-length part) in
+    let long = length-append part letters in
+    let most = state-most part in
+    rw (
+      is,
+      here,
+      drop-append-seam part letters,
+      length-after (endsInConsonant part) (state part) letters,
+      le-leb (length part) (length (part ++ letters)) (omega arith),
+      lt-ltb (length (part ++ letters)) (length states) (omega arith),
+      le-leb (state part + (length (part ++ letters) - length part)) 255 (omega arith),
+    ) (noted-more part letters states (length part) noted refl (omega arith))
 
-act-replace : (action : Action) (part : List ℕ) → eqb (numberOfAction action) 1 ≡ false → act action part ≡ part ++ written action
-unfolding act
-act-replace (replace s2) part e = refl
-act-replace single-letter part e = absurd (true≢false e)
+-- letters that were put behind a part of a word that stands, where their states are noted: they follow it, and the whole stands
+stays : (word states after new letters : List ℕ) (len part left : ℕ) → Stands word states len → part ≤ len → left ≡ part + length letters
+    → left ≤ length word
+    → after ≡ putAt word part letters
+    → length after ≡ length word
+    → length new ≡ length states
+    → new ≡ renewed states (take left after) part
+    → (take left after ≡ take part word ++ letters) × Stands after new left
+stays word states after new letters len part left stands inside is fits put long wide again =
+    let follows : take left after ≡ take part word ++ letters = rw (put, is) (put-behind word part letters (omega arith)) in
+    let before : Noted (take part word) states
+    = rw (take-take part len word inside) at (noted-part (take len word) states (stands .noted) part
+    (omega (arith, length-take-le len word (stands .within)))) in
+    let known = length-take-le part word (omega (arith, stands .within)) in (
+      follows,
+      record {
+        within = omega arith;
+        short = omega (arith, stands .short);
+        room = wide ∙ stands .room;
+        noted = rw (again, follows)
+            (renewed-noted (take part word) letters states part before (sym known) (omega (arith, stands .short)) (stands .room));
+      },
+    )
 
-nothing-behind : (part s2 : List ℕ) → length s2 ≡ 0 → part ++ s2 ≡ part
-nothing-behind part [] e = append-nil part
-nothing-behind part (letter ∷ s2) e = absurd (omega arith)
+size-requires : tie.Need-size-requires
+size-requires c κs = search needs
 
-single-requires : tie.Need-single-requires
-single-requires c κs = search needs
+sub-part : tie.Need-sub-part
+sub-part c = search needs
 
-returns : tie.Need-returns
-returns c =
-    let s = c .before .before .before .before in
-    let action = ruleAt (s .args .rule) .action in
-    let one = act-single action (s .args .word .now) (s .args .part) (sym (c .before .before .single .ensures)
-    ∙ c .before .if1 .taken) (s .pre .0 .1) in
-    let none : s .args .part - 1 ≡ 0 = omega arith in
-    (sym (one ∙ ap (λ (k : ℕ). take k (s .args .word .now)) none), omega arith)
+mul-start : tie.Need-mul-start
+mul-start c = search needs
 
-sub-result : tie.Need-sub-result
-sub-result c = search needs
+add-start : tie.Need-add-start
+add-start c = search needs
 
-returns-2 : tie.Need-returns-2
-returns-2 c =
-    let s = c .before .before .before .before in
-    let action = ruleAt (s .args .rule) .action in
-    let one = act-single action (s .args .word .now) (s .args .part) (sym (c .before .before .single .ensures)
-    ∙ c .before .if1 .taken) (s .pre .0 .1) in
-    (sym one, omega arith)
+added-requires : tie.Need-added-requires
+added-requires c κs = search needs
 
-replacement-starts-requires : tie.Need-replacement-starts-requires
-replacement-starts-requires c κs = search needs
+add-end : tie.Need-add-end
+add-end c = search needs
 
-slice-aggregate-removes : tie.Need-slice-aggregate-removes
-slice-aggregate-removes c = search needs
+sub-put : tie.Need-sub-put
+sub-put c = search needs
 
-removes-requires : tie.Need-removes-requires
-removes-requires c κs = search needs
+part-put-start : tie.Need-part-put-start
+part-put-start c = search needs
 
-returns-3 : tie.Need-returns-3
-returns-3 c =
-    let tested = c .before .before .before .before in
-    let s = tested .before .before .before in
-    let action = ruleAt (s .args .rule) .action in
-    let none : length (written action) ≡ 0 = eqb-true _ 0 (sym (c .before .removes .ensures) ∙ c .if3 .taken) in
-    let two = act-replace action (take (s .args .part) (s .args .word .now))
-    (sym (tested .before .single .ensures) ∙ tested .if1 .left) in
-    (sym (two ∙ nothing-behind (take (s .args .part) (s .args .word .now)) (written action) none), s .pre .0 .1)
+part-put-end : tie.Need-part-put-end
+part-put-end c = search needs
 
-replacements-requires : tie.Need-replacements-requires
-replacements-requires c κs = search needs
+put-requires : tie.Need-put-requires
+put-requires c κs = search needs
 
-slice-aggregate-replace : tie.Need-slice-aggregate-replace
-slice-aggregate-replace c = search needs
+sub-left : tie.Need-sub-left
+sub-left c = search needs
 
-slice-aggregate-replace-2 : tie.Need-slice-aggregate-replace-2
-slice-aggregate-replace-2 c = search needs
+add-left : tie.Need-add-left
+add-left c = search needs
 
-replace-requires : tie.Need-replace-requires
-replace-requires c κs = search needs
+slice-reshare-prefix-renew : tie.Need-slice-reshare-prefix-renew
+slice-reshare-prefix-renew c = search needs
+
+slice-aggregate-renew : tie.Need-slice-aggregate-renew
+slice-aggregate-renew c = sym (length-take-le _ (c .before .before .before .put .last .0) (omega arith))
+
+renew-requires : tie.Need-renew-requires
+renew-requires c κs = search needs
 
 same-length : tie.Need-same-length
 same-length c = search needs
 
-returns-4 : tie.Need-returns-4
-returns-4 c =
-    let tested = c .before .before .before .before .before .before .before .before .before .before .before in
-    let s = tested .before .before .before in
-    let action = ruleAt (s .args .rule) .action in
-    let two = act-replace action (take (s .args .part) (s .args .word .now))
-    (sym (tested .before .single .ensures) ∙ tested .if1 .left) in
-    (c .before .before .replace .ensures .0 ∙ sym two, c .before .before .replace .ensures .1)
+same-length-2 : tie.Need-same-length-2
+same-length-2 c = search needs
+
+returns : tie.Need-returns
+returns c =
+    let renew = c .before .before .renew in
+    let put = c .before .before .before .before .before .before .before in
+    let added = put .before .before .before .added in
+    let size = put .before .before .before .before .size in
+    let s = put .before .before .before .before .before .before .before .before in
+    let table = s .args .rules .now in
+    let rule = s .args .rule in
+    let word = s .args .word .now in
+    let letters = writtenAt table rule in
+    let written = written-size table rule (s .pre .0 .1 .0) in
+    let part = s .args .len - size .result in
+    let left = part + (16 * rule + 12 + added .result - (16 * rule + 12)) in
+    let both = stays word (s .args .states .now) (put .put .last .0) (renew .last .1 .0) letters (s .args .len) part left (s .pre .0 .0)
+    (omega arith) (omega (arith, added .ensures)) (omega (arith, added .ensures, size .ensures, s .pre .1))
+    (put .put .ensures ∙ ap (putAt word part) (written-read table rule (s .pre .0 .1 .0) _ (added .ensures)))
+    (omega arith) (omega arith) (renew .ensures) in
+    (both .0 ∙ ap (λ (n : ℕ). take (s .args .len - n) word ++ letters) (size .ensures), both .1)
 
 pub obey-spec : {M : Type 1} → statement M
 obey-spec =
     tie.close
-    (tie.spec single-requires returns sub-result returns-2 replacement-starts-requires slice-aggregate-removes removes-requires returns-3
-    replacements-requires slice-aggregate-replace slice-aggregate-replace-2 replace-requires same-length returns-4)
+    (tie.spec size-requires sub-part mul-start add-start added-requires add-end sub-put part-put-start part-put-end
+    put-requires sub-left add-left slice-reshare-prefix-renew slice-aggregate-renew renew-requires same-length same-length-2
+    returns)

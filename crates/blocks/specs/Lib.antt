@@ -1,0 +1,3 @@
+-- What the contracts of `blocks` cite beside the definitions of `paper`, and what a block tells of a word.
+pub mod Blocks
+pub mod Filters

@@ -1,0 +1,125 @@
+-- `letters::note` meets its contract: at the loop's head the states of the letters passed are in their places, and what is left to find
+-- lies in the bytes not passed yet.
+use Prim.Native.Nat.{_-_, _≤_, _<_}
+use borrow.Author.Needs.{needs}
+use native.Mathlib.Omega.{arith}
+use mathlib.Core.Path.{_≡_, refl}
+use mathlib.Core.Bool.{false}
+use borrow.Author.Tests.{leb-false, ltb-false}
+use lib.Dec.{leb, ltb}
+use lib.ListN.{length, getD}
+use Rattle.paper.specs.Letters.{letters, among, vowelAfter}
+use Rattle.paper.specs.TestLaws.{neither-left, neither-right}
+use Rattle.letters.specs.Scan.{alphabet, classTable}
+use Rattle.letters.proofs.Others.{Sought, below-found, above-found, sought-more, none-found}
+use Rattle.letters.proofs.Steps.{next-most}
+use Rattle.letters.proofs.Writes.{Writing, writing-none, writing-more, noted-is, noted-not}
+use Rattle.letters.proofs.note.Statement.{statement}
+use Rattle.letters.proofs.note.Tie as tie
+
+abbrev Inv-loop : tie.InvT-loop
+Inv-loop word states₀ table state₀ consonant₀ i₀ states state consonant i =
+    (table ≡ classTable)
+    × (length word < length states₀)
+    × (length word ≤ 255)
+    × Sought word i
+    × Writing word states₀ 0 false 0 states state consonant i
+
+abbrev μ-loop : tie.MeasureT-loop
+μ-loop word states₀ table state₀ consonant₀ i₀ states state consonant i = length word - i
+
+first-other-requires : tie.Need-first-other-requires Inv-loop μ-loop
+first-other-requires c κs = search needs
+
+returns : tie.Need-returns Inv-loop μ-loop
+returns c =
+    let a = c .before .before .before .before .args in
+    (c .first-other .ensures, noted-not (a .word .now) (a .states .now) (c .before .if1 .taken))
+
+-- where the loop begins: the constant is the table of two rows, by computation
+constant-is-the-class-table : tie.Need-loop-holds Inv-loop μ-loop
+unfolding classTable alphabet letters vowelAfter among
+constant-is-the-class-table c =
+    let a = c .before .before .before .before .args in
+    let size = length (a .word .now) in
+    let room = length (a .states .now) in
+    let test = c .before .if1 .left in (
+      refl,
+      leb-false room size (neither-left (leb room size) (ltb 255 size) test),
+      ltb-false 255 size (neither-right (leb room size) (ltb 255 size) test),
+      omega arith,
+      writing-none (a .word .now) (a .states .now) 0 false 0 (omega arith),
+    )
+
+shared-slice-read-letter : tie.Need-shared-slice-read-letter Inv-loop μ-loop
+shared-slice-read-letter c = omega arith
+
+same-length : tie.Need-same-length Inv-loop μ-loop
+same-length c = c .before .before .before .loop .inv .4 .size
+
+returns-2 : tie.Need-returns-2 Inv-loop μ-loop
+returns-2 c =
+    let at = c .before .before .before .loop in
+    let a = c .before .before .before .before .before .before .before .before .args in
+    let word = a .word .now in
+    let first = below-found word (at .i) (at .inv .3) (omega arith) (c .if2 .taken) in
+    (first, noted-is word (a .states .now) (at .states) (at .state) (at .consonant) (at .i) (at .inv .1) (at .inv .4) first (at .inv .2))
+
+same-length-2 : tie.Need-same-length-2 Inv-loop μ-loop
+same-length-2 c = c .before .before .before .before .loop .inv .4 .size
+
+returns-3 : tie.Need-returns-3 Inv-loop μ-loop
+returns-3 c =
+    let at = c .before .before .before .before .loop in
+    let a = c .before .before .before .before .before .before .before .before .before .args in
+    let word = a .word .now in
+    let first = above-found word (at .i) (at .inv .3) (omega arith) (c .if3 .taken) in
+    (first, noted-is word (a .states .now) (at .states) (at .state) (at .consonant) (at .i) (at .inv .1) (at .inv .4) first (at .inv .2))
+
+next-state-requires : tie.Need-next-state-requires Inv-loop μ-loop
+next-state-requires c κs = let at = c .before .before .before .before .loop in (at .inv .0, omega arith)
+
+add-i : tie.Need-add-i Inv-loop μ-loop
+add-i c = omega arith
+
+cast-states : tie.Need-cast-states Inv-loop μ-loop
+cast-states c =
+    let at = c .before .before .before .before .before .loop in
+    omega (
+      arith,
+      next-most (at .consonant) (at .state)
+          (getD (c .before .before .before .before .before .before .before .before .before .before .args .word .now) (at .i) 0),
+    )
+
+slice-write-states : tie.Need-slice-write-states Inv-loop μ-loop
+slice-write-states c = omega arith
+
+loop-less : tie.Need-loop-less Inv-loop μ-loop
+loop-less c = omega arith
+
+loop-again : tie.Need-loop-again Inv-loop μ-loop
+loop-again c =
+    let at = c .before .before .before .before .before .loop in
+    let a = c .before .before .before .before .before .before .before .before .before .before .args in
+    let word = a .word .now in
+    let more = sought-more word (at .i) (at .inv .3) (omega arith) (c .before .before .if2 .left) (c .before .if3 .left) in
+    let wrote = writing-more word (a .states .now) 0 false 0 (at .inv .1) (at .states) (at .state) (at .consonant) (at .i)
+    (c .next-state .result) (at .inv .4) (omega arith) (c .next-state .ensures) in
+    (at .inv .0, at .inv .1, at .inv .2, more, wrote)
+
+same-length-3 : tie.Need-same-length-3 Inv-loop μ-loop
+same-length-3 c = c .before .loop .inv .4 .size
+
+returns-4 : tie.Need-returns-4 Inv-loop μ-loop
+returns-4 c =
+    let at = c .before .loop in
+    let a = c .before .before .before .before .before .before .args in
+    let word = a .word .now in
+    let first = none-found word (at .i) (at .inv .3) (c .loop-test .left) in
+    (first, noted-is word (a .states .now) (at .states) (at .state) (at .consonant) (at .i) (at .inv .1) (at .inv .4) first (at .inv .2))
+
+pub note-spec : {M : Type 1} → statement M
+note-spec =
+    tie.close
+    (tie.spec Inv-loop μ-loop first-other-requires returns constant-is-the-class-table shared-slice-read-letter same-length returns-2
+    same-length-2 returns-3 next-state-requires add-i cast-states slice-write-states loop-less loop-again same-length-3 returns-4)

@@ -1,0 +1,14 @@
+-- `rules::group_1c` meets its contract: the constant is the group's rows, by computation.
+use mathlib.Core.Path.{refl}
+use Rattle.paper.specs.Letters.{letters}
+use Rattle.paper.specs.Shipped.{rule, group-1c}
+use Rattle.rules.specs.Rows.{rowOf, rowsOf}
+use Rattle.rules.proofs.group_1c.Statement.{statement}
+use Rattle.rules.proofs.group_1c.Tie as tie
+
+returns : tie.Need-returns
+unfolding rowsOf rowOf letters rule group-1c
+returns c = refl
+
+pub group-1c-spec : {M : Type 1} → statement M
+group-1c-spec = tie.close (tie.spec returns)
