@@ -1,15 +1,25 @@
--- The samples that document 01 marks P, and its examples of the measure, each as one statement over a single list.
---
-use Prim.Native.Nat.{ℕ}
+-- The samples that document 01 marks P, and its examples of the measure, each as one statement over a single list; and how many rules it
+-- has.
+use Prim.Native.Nat.{ℕ, _+_}
 use Prim.Native.String.{String}
 use mathlib.Core.Path.{_≡_, refl}
 use mathlib.Core.List.{List, [], _∷_, map}
+use lib.ListN.{length}
 use Rattle.paper.specs.Letters.{letters, among, vowelAfter, classAfter, inward, classOf, letterAt, classAt, rises, measure}
 use Rattle.paper.specs.Conditions.{someVowel, *v*, *d, *o, lastIs, conditions, holds}
-use Rattle.paper.specs.Groups.{done, same, endsWith, before, which, first, fitting, longest, chosen, obeyed, act}
+use Rattle.paper.specs.Groups.{Group, done, same, endsWith, before, which, first, fitting, longest, chosen, obeyed, act}
 use Rattle.paper.specs.Groups.{result, opensNext, steps, reading}
 use Rattle.paper.specs.Shipped.{shipped}
 use Rattle.paper.specs.Words.{readWord, stem}
+
+-- "nine groups, 62 rules"
+unfoldable pub ruleCount : List Group → ℕ
+ruleCount [] = 0
+ruleCount (group ∷ groups) = length (group .rules) + ruleCount groups
+
+pub shipped-count : (length shipped ≡ 9) × (ruleCount shipped ≡ 62)
+unfolding ruleCount shipped
+shipped-count = (refl, refl)
 
 -- a word and its stem
 unfoldable pub samples : List (String × String)

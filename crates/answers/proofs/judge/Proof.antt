@@ -7,16 +7,11 @@ use Rattle.paper.specs.WordsLaws.{judged-by}
 use Rattle.answers.proofs.judge.Statement.{statement}
 use Rattle.answers.proofs.judge.Tie as tie
 
-first-other-requires : tie.Need-first-other-requires
-first-other-requires c κs = search needs
-
-judge-by-requires : tie.Need-judge-by-requires
-judge-by-requires c κs = search needs
-
 returns : tie.Need-returns
 returns c =
     let word = c .before .before .before .args .word .now in
     c .judge-by .ensures ∙ ap (judgedBy (length word)) (c .before .first-other .ensures) ∙ judged-by word
 
 pub judge-spec : {M : Type 1} → statement M
-judge-spec = tie.close (tie.spec first-other-requires judge-by-requires returns)
+judge-spec = tie.close
+    (tie.spec (λ c κs. search needs) (λ c κs. search needs) returns)

@@ -5,15 +5,10 @@ use Rattle.blocks.specs.Blocks.{member}
 use Rattle.blocks.proofs.has.Statement.{statement}
 use Rattle.blocks.proofs.has.Tie as tie
 
-cast-result : tie.Need-cast-result
-cast-result c = search needs
-
-shr-result : tie.Need-shr-result
-shr-result c = search needs
-
 returns : tie.Need-returns
 unfolding member
 returns c = refl
 
 pub has-spec : {M : Type 1} → statement M
-has-spec = tie.close (tie.spec cast-result shr-result returns)
+has-spec = tie.close
+    (tie.spec (λ c. search needs) (λ c. search needs) returns)

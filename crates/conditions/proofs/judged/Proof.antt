@@ -17,21 +17,6 @@ beyond k low other = omega arith
 above-3 : (n : ℕ) → (((Unit {0} × (n ≡ 0 → ⊥)) × (n ≡ 1 → ⊥)) × (n ≡ 2 → ⊥)) × (n ≡ 3 → ⊥) → 4 ≤ n
 above-3 n others = beyond 3 (beyond 2 (beyond 1 (beyond 0 (omega arith) (others .0 .0 .0 .1)) (others .0 .0 .1)) (others .0 .1)) (others .1)
 
-letter-at-requires : tie.Need-letter-at-requires
-letter-at-requires c κs = search needs
-
-double-requires : tie.Need-double-requires
-double-requires c κs = search needs
-
-short-requires : tie.Need-short-requires
-short-requires c κs = search needs
-
-short-requires-2 : tie.Need-short-requires-2
-short-requires-2 c κs = search needs
-
-double-requires-2 : tie.Need-double-requires-2
-double-requires-2 c κs = search needs
-
 returns : tie.Need-returns
 unfolding holdsBy conditionsBy
 returns c = rw (c .match .keys1)
@@ -82,5 +67,5 @@ returns-10 c =
 pub judged-spec : {M : Type 1} → statement M
 judged-spec =
     tie.close
-    (tie.spec letter-at-requires double-requires short-requires short-requires-2 double-requires-2 returns returns-2 returns-3 returns-4
-    returns-5 returns-6 returns-7 returns-8 returns-9 returns-10)
+    (tie.spec (λ c κs. search needs) (λ c κs. search needs) (λ c κs. search needs) (λ c κs. search needs) (λ c κs. search needs) returns
+    returns-2 returns-3 returns-4 returns-5 returns-6 returns-7 returns-8 returns-9 returns-10)

@@ -8,15 +8,6 @@ use Rattle.paper.specs.LettersLaws.{letterAt-index}
 use Rattle.conditions.proofs.letter_at.Statement.{statement}
 use Rattle.conditions.proofs.letter_at.Tie as tie
 
-sub-at : tie.Need-sub-at
-sub-at c = search needs
-
-sub-at-2 : tie.Need-sub-at-2
-sub-at-2 c = search needs
-
-shared-slice-read-result : tie.Need-shared-slice-read-result
-shared-slice-read-result c = search needs
-
 returns : tie.Need-returns
 returns c = sym (letterAt-index _ (c .before .before .args .back) (c .before .if1 .taken))
 
@@ -28,4 +19,5 @@ returns-2 c =
     sym (List·getD-eq-default (inward part) 0 outside)
 
 pub letter-at-spec : {M : Type 1} → statement M
-letter-at-spec = tie.close (tie.spec sub-at sub-at-2 shared-slice-read-result returns returns-2)
+letter-at-spec = tie.close
+    (tie.spec (λ c. search needs) (λ c. search needs) (λ c. search needs) returns returns-2)

@@ -15,9 +15,6 @@ none-above : (number now : ℕ) → 4 ≤ number → reachesBy number now ≡ fa
 unfolding reachesBy
 none-above number now h = List·getD-eq-default (true ∷ ltb 1 now ∷ ltb 3 now ∷ ltb 0 now ∷ []) false h
 
-state-at-requires : tie.Need-state-at-requires
-state-at-requires c κs = search needs
-
 returns : tie.Need-returns
 unfolding reachesBy
 returns c = rw (c .match .keys1)
@@ -39,4 +36,5 @@ returns-5 c = sym (none-above (c .before .before .before .args .condition) _ (om
 
 pub reaches-spec : {M : Type 1} → statement M
 reaches-spec =
-    tie.close (tie.spec state-at-requires returns returns-2 returns-3 returns-4 returns-5)
+    tie.close
+    (tie.spec (λ c κs. search needs) returns returns-2 returns-3 returns-4 returns-5)

@@ -5,12 +5,10 @@ use Rattle.paper.specs.Letters.{letters, among}
 use Rattle.conditions.proofs.short.Statement.{statement}
 use Rattle.conditions.proofs.short.Tie as tie
 
-letter-at-requires : tie.Need-letter-at-requires
-letter-at-requires c κs = search needs
-
 returns : tie.Need-returns
 unfolding among letters
 returns c = rw (c .letter-at .ensures, or-false)
 
 pub short-spec : {M : Type 1} → statement M
-short-spec = tie.close (tie.spec letter-at-requires returns)
+short-spec = tie.close
+    (tie.spec (λ c κs. search needs) returns)

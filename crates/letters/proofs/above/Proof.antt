@@ -18,9 +18,6 @@ Inv-loop part k table s₀ i₀ s i = Passing part table s i × (s .state ≤ k)
 abbrev μ-loop : tie.MeasureT-loop
 μ-loop part k table s₀ i₀ s i = length part - i
 
-nothing-passed-requires : tie.Need-nothing-passed-requires Inv-loop μ-loop
-nothing-passed-requires c κs = search needs
-
 -- where the loop begins: the constant is the table of two rows, by computation
 constant-is-the-class-table : tie.Need-loop-holds Inv-loop μ-loop
 unfolding classTable alphabet letters vowelAfter among
@@ -73,6 +70,5 @@ returns-2 c =
 pub above-spec : {M : Type 1} → statement M
 above-spec =
     tie.close
-    (tie.spec Inv-loop μ-loop nothing-passed-requires constant-is-the-class-table shared-slice-read-step step-requires returns add-i
-    loop-less loop-again
-    returns-2)
+    (tie.spec Inv-loop μ-loop (λ c κs. search needs) constant-is-the-class-table shared-slice-read-step step-requires returns add-i
+    loop-less loop-again returns-2)

@@ -8,29 +8,11 @@ use Rattle.paper.specs.States.{above-from, vowel-from-1, holds-by-states}
 use Rattle.letters.proofs.holds.Statement.{statement}
 use Rattle.letters.proofs.holds.Tie as tie
 
-above-requires : tie.Need-above-requires
-above-requires c κs = search needs
-
-above-requires-2 : tie.Need-above-requires-2
-above-requires-2 c κs = search needs
-
-above-requires-3 : tie.Need-above-requires-3
-above-requires-3 c κs = search needs
-
-letter-at-requires : tie.Need-letter-at-requires
-letter-at-requires c κs = search needs
-
 returns : tie.Need-returns
 unfolding holds conditions lastIs
 returns c =
     let no-l = ne-eqb _ _ (c .if2 .taken) in
     rw (c .before .before .if1 .taken) (simp (← c .before .letter-at .ensures, no-l, and-false))
-
-scan-requires : tie.Need-scan-requires
-scan-requires c κs = search needs
-
-judged-requires : tie.Need-judged-requires
-judged-requires c κs = search needs
 
 returns-2 : tie.Need-returns-2
 unfolding holds conditions lastIs
@@ -56,5 +38,5 @@ returns-6 c =
 pub holds-spec : {M : Type 1} → statement M
 holds-spec =
     tie.close
-    (tie.spec above-requires above-requires-2 above-requires-3 letter-at-requires returns scan-requires judged-requires returns-2
-    returns-3 returns-4 returns-5 returns-6)
+    (tie.spec (λ c κs. search needs) (λ c κs. search needs) (λ c κs. search needs) (λ c κs. search needs) returns (λ c κs. search needs)
+    (λ c κs. search needs) returns-2 returns-3 returns-4 returns-5 returns-6)

@@ -4,11 +4,9 @@ use Rattle.paper.specs.States.{measure-by-state}
 use Rattle.letters.proofs.measure.Statement.{statement}
 use Rattle.letters.proofs.measure.Tie as tie
 
-scan-requires : tie.Need-scan-requires
-scan-requires c κs = search needs
-
 returns : tie.Need-returns
 returns c = rw (measure-by-state, c .before .scan .ensures .state)
 
 pub measure-spec : {M : Type 1} → statement M
-measure-spec = tie.close (tie.spec scan-requires returns)
+measure-spec = tie.close
+    (tie.spec (λ c κs. search needs) returns)

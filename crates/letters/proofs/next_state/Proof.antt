@@ -22,17 +22,11 @@ other-class true false e = refl
 other-class false true e = refl
 other-class false false e = absurd (true≢false e)
 
-vowel-after-requires : tie.Need-vowel-after-requires
-vowel-after-requires c κs = search needs
-
 returns : tie.Need-returns
 unfolding nextState
 returns c =
     let same = same-class (c .before .vowel-after .result) (eqb (c .before .before .args .state % 2) 1) (c .if1 .taken) in
     rw (← c .before .vowel-after .ensures, same) (omega arith)
-
-add-result : tie.Need-add-result
-add-result c = search needs
 
 returns-2 : tie.Need-returns-2
 unfolding nextState
@@ -41,4 +35,5 @@ returns-2 c =
     rw (← c .before .vowel-after .ensures, other) (omega arith)
 
 pub next-state-spec : {M : Type 1} → statement M
-next-state-spec = tie.close (tie.spec vowel-after-requires returns add-result returns-2)
+next-state-spec = tie.close
+    (tie.spec (λ c κs. search needs) returns (λ c. search needs) returns-2)

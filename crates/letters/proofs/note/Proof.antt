@@ -28,9 +28,6 @@ Inv-loop word states₀ table state₀ consonant₀ i₀ states state consonant 
 abbrev μ-loop : tie.MeasureT-loop
 μ-loop word states₀ table state₀ consonant₀ i₀ states state consonant i = length word - i
 
-first-other-requires : tie.Need-first-other-requires Inv-loop μ-loop
-first-other-requires c κs = search needs
-
 returns : tie.Need-returns Inv-loop μ-loop
 returns c =
     let a = c .before .before .before .before .args in
@@ -121,5 +118,5 @@ returns-4 c =
 pub note-spec : {M : Type 1} → statement M
 note-spec =
     tie.close
-    (tie.spec Inv-loop μ-loop first-other-requires returns constant-is-the-class-table shared-slice-read-letter same-length returns-2
+    (tie.spec Inv-loop μ-loop (λ c κs. search needs) returns constant-is-the-class-table shared-slice-read-letter same-length returns-2
     same-length-2 returns-3 next-state-requires add-i cast-states slice-write-states loop-less loop-again same-length-3 returns-4)

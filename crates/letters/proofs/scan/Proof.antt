@@ -16,9 +16,6 @@ Inv-loop part table s₀ i₀ s i = Passing part table s i
 abbrev μ-loop : tie.MeasureT-loop
 μ-loop part table s₀ i₀ s i = length part - i
 
-nothing-passed-requires : tie.Need-nothing-passed-requires Inv-loop μ-loop
-nothing-passed-requires c κs = search needs
-
 -- where the loop begins: the constant is the table of two rows, by computation
 constant-is-the-class-table : tie.Need-loop-holds Inv-loop μ-loop
 unfolding classTable alphabet letters vowelAfter among
@@ -56,5 +53,5 @@ returns c =
 pub scan-spec : {M : Type 1} → statement M
 scan-spec =
     tie.close
-    (tie.spec Inv-loop μ-loop nothing-passed-requires constant-is-the-class-table shared-slice-read-step step-requires add-i loop-less
+    (tie.spec Inv-loop μ-loop (λ c κs. search needs) constant-is-the-class-table shared-slice-read-step step-requires add-i loop-less
     loop-again returns)

@@ -5,9 +5,6 @@ use Rattle.letters.proofs.Steps.{next-most, one-more}
 use Rattle.letters.proofs.step.Statement.{statement}
 use Rattle.letters.proofs.step.Tie as tie
 
-next-state-requires : tie.Need-next-state-requires
-next-state-requires c κs = search needs
-
 returns : tie.Need-returns
 returns c =
     let a = c .before .args in
@@ -17,4 +14,5 @@ returns c =
     )
 
 pub step-spec : {M : Type 1} → statement M
-step-spec = tie.close (tie.spec next-state-requires returns)
+step-spec = tie.close
+    (tie.spec (λ c κs. search needs) returns)

@@ -17,21 +17,6 @@ returns c = sym (below-a (classBefore (c .before .args .consonant)) (c .before .
 returns-2 : tie.Need-returns-2
 returns-2 c = sym (above-z (classBefore (c .before .before .args .consonant)) (c .before .before .args .letter) (c .if2 .taken))
 
-cast-column : tie.Need-cast-column
-cast-column c = search needs
-
-index-1-result : tie.Need-index-1-result
-index-1-result c = search needs
-
-index-2-result : tie.Need-index-2-result
-index-2-result c = search needs
-
-index-1-result-2 : tie.Need-index-1-result-2
-index-1-result-2 c = search needs
-
-index-2-result-2 : tie.Need-index-2-result-2
-index-2-result-2 c = search needs
-
 returns-3 : tie.Need-returns-3
 returns-3 c =
     let start = c .before .before .before .before in
@@ -43,4 +28,5 @@ returns-3 c =
 pub vowel-after-spec : {M : Type 1} → statement M
 vowel-after-spec =
     tie.close
-    (tie.spec returns returns-2 cast-column index-1-result index-2-result index-1-result-2 index-2-result-2 returns-3)
+    (tie.spec returns returns-2 (λ c. search needs) (λ c. search needs) (λ c. search needs) (λ c. search needs) (λ c. search needs)
+    returns-3)

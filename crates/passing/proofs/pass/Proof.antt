@@ -9,15 +9,6 @@ use borrow.Author.Needs.{needs}
 use Rattle.passing.proofs.pass.Statement.{statement}
 use Rattle.passing.proofs.pass.Tie as tie
 
-frame-at-requires : tie.Need-frame-at-requires
-frame-at-requires c κs = search needs
-
-enum-told : tie.Need-enum-told
-enum-told c = search needs
-
-enum-known-frame : tie.Need-enum-known-frame
-enum-known-frame c = search needs
-
 -- what the frame says
 frame-of : (c : tie.After-known-told)
     → (let args = c .before .before .before .before .before .args in
@@ -38,9 +29,6 @@ part-passed-group-start c = frame-of (c .before) .ahead
 part-passed-group-end : tie.Need-part-passed-group-end
 part-passed-group-end c = frame-of (c .before) .inside
 
-passed-group-requires : tie.Need-passed-group-requires
-passed-group-requires c κs = search needs
-
 returns : tie.Need-returns
 unfolding passedAt
 returns c =
@@ -55,9 +43,6 @@ part-passed-rule-start c = frame-of (c .before .before) .ahead
 
 part-passed-rule-end : tie.Need-part-passed-rule-end
 part-passed-rule-end c = frame-of (c .before .before) .inside
-
-passed-rule-requires : tie.Need-passed-rule-requires
-passed-rule-requires c κs = search needs
 
 returns-2 : tie.Need-returns-2
 unfolding passedAt
@@ -85,6 +70,6 @@ returns-5 c =
 pub pass-spec : {M : Type 1} → statement M
 pass-spec =
     tie.close
-    (tie.spec
-    frame-at-requires enum-told enum-known-frame sub-passed-group part-passed-group-start part-passed-group-end passed-group-requires
-    returns sub-passed-rule part-passed-rule-start part-passed-rule-end passed-rule-requires returns-2 returns-3 returns-4 returns-5)
+    (tie.spec (λ c κs. search needs) (λ c. search needs) (λ c. search needs) sub-passed-group part-passed-group-start
+    part-passed-group-end (λ c κs. search needs) returns sub-passed-rule part-passed-rule-start part-passed-rule-end
+    (λ c κs. search needs) returns-2 returns-3 returns-4 returns-5)

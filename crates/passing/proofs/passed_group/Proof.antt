@@ -11,21 +11,10 @@ returns : tie.Need-returns
 unfolding passedGroup
 returns c = simp (lt-ltb _ _ (c .if1 .taken))
 
-shared-slice-read-pair : tie.Need-shared-slice-read-pair
-shared-slice-read-pair c = search needs
-
-shared-slice-read-pair-2 : tie.Need-shared-slice-read-pair-2
-shared-slice-read-pair-2 c = search needs
-
-pair-requires : tie.Need-pair-requires
-pair-requires c κs = search needs
-
-add-next : tie.Need-add-next
-add-next c = search needs
-
 returns-2 : tie.Need-returns-2
 unfolding passedGroup gateNumber number
 returns-2 c = simp (le-ltb _ _ (c .before .before .before .if1 .left), ← c .pair .ensures .0)
 
 pub passed-group-spec : {M : Type 1} → statement M
-passed-group-spec = tie.close (tie.spec returns shared-slice-read-pair shared-slice-read-pair-2 pair-requires add-next returns-2)
+passed-group-spec = tie.close
+    (tie.spec returns (λ c. search needs) (λ c. search needs) (λ c κs. search needs) (λ c. search needs) returns-2)

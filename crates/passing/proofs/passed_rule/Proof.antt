@@ -29,35 +29,11 @@ returns : tie.Need-returns
 unfolding passedRule
 returns c = simp (lt-ltb _ _ (c .if1 .taken))
 
-shared-slice-read-wide : tie.Need-shared-slice-read-wide
-shared-slice-read-wide c = search needs
-
-wide-requires : tie.Need-wide-requires
-wide-requires c κs = search needs
-
 add-end : tie.Need-add-end
 add-end c = omega (arith, c .wide .ensures .1)
 
 returns-2 : tie.Need-returns-2
 returns-2 c = too-short _ _ _ (c .before .wide .ensures .0) (c .before .before .before .if1 .left) (c .if2 .taken)
-
-shared-slice-read-condition : tie.Need-shared-slice-read-condition
-shared-slice-read-condition c = search needs
-
-shared-slice-read-action : tie.Need-shared-slice-read-action
-shared-slice-read-action c = search needs
-
-shared-slice-read-opens : tie.Need-shared-slice-read-opens
-shared-slice-read-opens c = search needs
-
-add-start : tie.Need-add-start
-add-start c = search needs
-
-add-middle : tie.Need-add-middle
-add-middle c = search needs
-
-add-next : tie.Need-add-next
-add-next c = search needs
 
 returns-3 : tie.Need-returns-3
 returns-3 c =
@@ -67,5 +43,5 @@ returns-3 c =
 pub passed-rule-spec : {M : Type 1} → statement M
 passed-rule-spec =
     tie.close
-    (tie.spec returns shared-slice-read-wide wide-requires add-end returns-2 shared-slice-read-condition shared-slice-read-action
-    shared-slice-read-opens add-start add-middle add-next returns-3)
+    (tie.spec returns (λ c. search needs) (λ c κs. search needs) add-end returns-2 (λ c. search needs) (λ c. search needs)
+    (λ c. search needs) (λ c. search needs) (λ c. search needs) (λ c. search needs) returns-3)

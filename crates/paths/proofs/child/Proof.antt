@@ -27,9 +27,6 @@ mul-number-at c = omega arith
 add-number-at : tie.Need-add-number-at Inv-loop μ-loop
 add-number-at c = omega arith
 
-number-at-requires : tie.Need-number-at-requires Inv-loop μ-loop
-number-at-requires c κs = search needs
-
 loop-holds : tie.Need-loop-holds Inv-loop μ-loop
 unfolding childOf
 loop-holds c = (rw (c .number-at .ensures .0), c .number-at .ensures .1)
@@ -41,9 +38,6 @@ returns-2 c =
 
 mul-number-at-2 : tie.Need-mul-number-at-2 Inv-loop μ-loop
 mul-number-at-2 c = omega arith
-
-number-at-requires-2 : tie.Need-number-at-requires-2 Inv-loop μ-loop
-number-at-requires-2 c κs = search needs
 
 returns-3 : tie.Need-returns-3 Inv-loop μ-loop
 returns-3 c =
@@ -58,9 +52,6 @@ mul-number-at-3 c = omega arith
 
 add-number-at-2 : tie.Need-add-number-at-2 Inv-loop μ-loop
 add-number-at-2 c = omega arith
-
-number-at-requires-3 : tie.Need-number-at-requires-3 Inv-loop μ-loop
-number-at-requires-3 c κs = search needs
 
 sub-steps : tie.Need-sub-steps Inv-loop μ-loop
 sub-steps c = omega arith
@@ -83,5 +74,5 @@ returns-4 c = (sym (chain-end _ _ _ _ (c .loop-test .left)) ∙ c .before .loop 
 pub child-spec : {M : Type 1} → statement M
 child-spec =
     tie.close
-    (tie.spec Inv-loop μ-loop returns mul-number-at add-number-at number-at-requires loop-holds returns-2 mul-number-at-2
-    number-at-requires-2 returns-3 mul-number-at-3 add-number-at-2 number-at-requires-3 sub-steps loop-less loop-again returns-4)
+    (tie.spec Inv-loop μ-loop returns mul-number-at add-number-at (λ c κs. search needs) loop-holds returns-2 mul-number-at-2
+    (λ c κs. search needs) returns-3 mul-number-at-3 add-number-at-2 (λ c κs. search needs) sub-steps loop-less loop-again returns-4)

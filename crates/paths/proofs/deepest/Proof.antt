@@ -33,9 +33,6 @@ mul-number-at c = omega arith
 add-number-at : tie.Need-add-number-at Inv-loop μ-loop
 add-number-at c = omega arith
 
-number-at-requires : tie.Need-number-at-requires Inv-loop μ-loop
-number-at-requires c κs = search needs
-
 loop-holds : tie.Need-loop-holds Inv-loop μ-loop
 loop-holds c =
     let a = c .before .before .before .before .args in (
@@ -49,12 +46,6 @@ sub-left c = omega arith
 
 shared-slice-read-wide : tie.Need-shared-slice-read-wide Inv-loop μ-loop
 shared-slice-read-wide c = omega arith
-
-wide-requires : tie.Need-wide-requires Inv-loop μ-loop
-wide-requires c κs = search needs
-
-child-requires : tie.Need-child-requires Inv-loop μ-loop
-child-requires c κs = search needs
 
 -- one letter further
 step-of : (c : tie.After-child Inv-loop μ-loop)
@@ -79,9 +70,6 @@ mul-number-at-2 c = omega arith
 
 add-number-at-2 : tie.Need-add-number-at-2 Inv-loop μ-loop
 add-number-at-2 c = omega arith
-
-number-at-requires-2 : tie.Need-number-at-requires-2 Inv-loop μ-loop
-number-at-requires-2 c κs = search needs
 
 loop-less : tie.Need-loop-less Inv-loop μ-loop
 loop-less c = omega arith
@@ -115,6 +103,6 @@ returns-3 c =
 pub deepest-spec : {M : Type 1} → statement M
 deepest-spec =
     tie.close
-    (tie.spec Inv-loop μ-loop returns mul-number-at add-number-at number-at-requires loop-holds sub-left shared-slice-read-wide
-    wide-requires
-    child-requires returns-2 mul-number-at-2 add-number-at-2 number-at-requires-2 loop-less loop-again loop-less-2 loop-again-2 returns-3)
+    (tie.spec Inv-loop μ-loop returns mul-number-at add-number-at (λ c κs. search needs) loop-holds sub-left shared-slice-read-wide
+    (λ c κs. search needs) (λ c κs. search needs) returns-2 mul-number-at-2 add-number-at-2 (λ c κs. search needs) loop-less loop-again
+    loop-less-2 loop-again-2 returns-3)

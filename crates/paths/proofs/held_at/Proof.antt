@@ -35,12 +35,6 @@ sub-left c = omega arith
 shared-slice-read-wide : tie.Need-shared-slice-read-wide Inv-loop μ-loop
 shared-slice-read-wide c = omega arith
 
-wide-requires : tie.Need-wide-requires Inv-loop μ-loop
-wide-requires c κs = search needs
-
-child-requires : tie.Need-child-requires Inv-loop μ-loop
-child-requires c κs = search needs
-
 -- one letter further
 step-of : (c : tie.After-child Inv-loop μ-loop)
     → (let a = c .before .before .before .before .before .before .before .before .args in
@@ -75,9 +69,6 @@ mul-number-at c = omega arith
 add-number-at : tie.Need-add-number-at Inv-loop μ-loop
 add-number-at c = omega arith
 
-number-at-requires : tie.Need-number-at-requires Inv-loop μ-loop
-number-at-requires c κs = search needs
-
 returns-3 : tie.Need-returns-3 Inv-loop μ-loop
 returns-3 c =
     let a = c .before .before .before .before .before .before .args in
@@ -88,5 +79,5 @@ returns-3 c =
 pub held-at-spec : {M : Type 1} → statement M
 held-at-spec =
     tie.close
-    (tie.spec Inv-loop μ-loop returns loop-holds sub-left shared-slice-read-wide wide-requires child-requires returns-2 loop-less loop-again
-    mul-number-at add-number-at number-at-requires returns-3)
+    (tie.spec Inv-loop μ-loop returns loop-holds sub-left shared-slice-read-wide (λ c κs. search needs) (λ c κs. search needs) returns-2
+    loop-less loop-again mul-number-at add-number-at (λ c κs. search needs) returns-3)

@@ -7,12 +7,6 @@ use borrow.Author.Needs.{needs}
 use Rattle.paths.proofs.number_at.Statement.{statement}
 use Rattle.paths.proofs.number_at.Tie as tie
 
-mul-result : tie.Need-mul-result
-mul-result c = search needs
-
-shared-slice-read-result : tie.Need-shared-slice-read-result
-shared-slice-read-result c = search needs
-
 cast-result : tie.Need-cast-result
 cast-result c = omega (arith, c .shared-slice-known .given (c .before .before .args .place))
 
@@ -26,4 +20,5 @@ returns-2 c = (sym (List·getD-eq-default (c .before .args .table .now) 0 (c .if
 
 pub number-at-spec : {M : Type 1} → statement M
 number-at-spec =
-    tie.close (tie.spec mul-result shared-slice-read-result cast-result returns returns-2)
+    tie.close
+    (tie.spec (λ c. search needs) (λ c. search needs) cast-result returns returns-2)

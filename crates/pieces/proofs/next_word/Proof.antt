@@ -9,18 +9,6 @@ use Rattle.pieces.specs.NextLaws.{next-within, next-leading, part-within
 use Rattle.pieces.proofs.next_word.Statement.{statement}
 use Rattle.pieces.proofs.next_word.Tie as tie
 
-next-word-at-requires : tie.Need-next-word-at-requires
-next-word-at-requires c κs = search needs
-
-word-run-requires : tie.Need-word-run-requires
-word-run-requires c κs = search needs
-
-sub-result : tie.Need-sub-result
-sub-result c = search needs
-
-part-result-start : tie.Need-part-result-start
-part-result-start c = search needs
-
 part-result-end : tie.Need-part-result-end
 part-result-end c =
     let text = c .before .before .before .args .text .now in
@@ -42,4 +30,4 @@ returns c =
 pub next-word-spec : {M : Type 1} → statement M
 next-word-spec =
     tie.close
-    (tie.spec next-word-at-requires word-run-requires sub-result part-result-start part-result-end returns)
+    (tie.spec (λ c κs. search needs) (λ c κs. search needs) (λ c. search needs) (λ c. search needs) part-result-end returns)

@@ -63,20 +63,8 @@ stays : (w : List ℕ) → obeyed w group-1b ≡ none → Cut group-1b w (length
 unfolding opensNext
 stays w is = (kept-whole group-1b w is, rw is)
 
-letter-at-requires : tie.Need-letter-at-requires
-letter-at-requires c κs = search needs
-
-group-1b-requires : tie.Need-group-1b-requires
-group-1b-requires c κs = search needs
-
-slice-aggregate-fits : tie.Need-slice-aggregate-fits
-slice-aggregate-fits c = search needs
-
 fits-requires : tie.Need-fits-requires
 fits-requires c κs = here (c .before) .held .rows 0 (omega (arith, three))
-
-slice-aggregate-left-by : tie.Need-slice-aggregate-left-by
-slice-aggregate-left-by c = search needs
 
 left-by-requires : tie.Need-left-by-requires
 unfolding letters rule opening group-1b
@@ -92,14 +80,8 @@ returns c =
     (tells g 0 (omega arith) (c .before .before .before .fits2 .ensures) ∙ c .before .before .if2 .taken)
     (none-yet (ruleOf group-1b) (word g)) _ _ (c .left-by .ensures .0) (c .left-by .ensures .1)
 
-slice-aggregate-fits-2 : tie.Need-slice-aggregate-fits-2
-slice-aggregate-fits-2 c = search needs
-
 fits-requires-2 : tie.Need-fits-requires-2
 fits-requires-2 c κs = here (c .before .before .before .before) .held .rows 1 (omega (arith, three))
-
-slice-aggregate-left-by-2 : tie.Need-slice-aggregate-left-by-2
-slice-aggregate-left-by-2 c = search needs
 
 left-by-requires-2 : tie.Need-left-by-requires-2
 unfolding letters rule opening group-1b
@@ -115,14 +97,8 @@ returns-2 c =
     (tells g 1 (omega arith) (c .before .before .before .fits3 .ensures) ∙ c .before .before .if3 .taken)
     (misses-1 (c .before .before .before .before)) _ _ (c .left-by2 .ensures .0) (c .left-by2 .ensures .1)
 
-slice-aggregate-fits-3 : tie.Need-slice-aggregate-fits-3
-slice-aggregate-fits-3 c = search needs
-
 fits-requires-3 : tie.Need-fits-requires-3
 fits-requires-3 c κs = here (c .before .before .before .before .before .before .before) .held .rows 2 (omega (arith, three))
-
-slice-aggregate-left-by-3 : tie.Need-slice-aggregate-left-by-3
-slice-aggregate-left-by-3 c = search needs
 
 left-by-requires-3 : tie.Need-left-by-requires-3
 unfolding letters rule opening group-1b
@@ -158,6 +134,6 @@ returns-5 c =
 pub cut-1b-spec : {M : Type 1} → statement M
 cut-1b-spec =
     tie.close
-    (tie.spec letter-at-requires group-1b-requires slice-aggregate-fits fits-requires slice-aggregate-left-by left-by-requires returns
-    slice-aggregate-fits-2 fits-requires-2 slice-aggregate-left-by-2 left-by-requires-2 returns-2 slice-aggregate-fits-3 fits-requires-3
-    slice-aggregate-left-by-3 left-by-requires-3 returns-3 returns-4 returns-5)
+    (tie.spec (λ c κs. search needs) (λ c κs. search needs) (λ c. search needs) fits-requires (λ c. search needs) left-by-requires returns
+    (λ c. search needs) fits-requires-2 (λ c. search needs) left-by-requires-2 returns-2 (λ c. search needs) fits-requires-3
+    (λ c. search needs) left-by-requires-3 returns-3 returns-4 returns-5)

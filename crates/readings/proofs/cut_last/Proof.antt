@@ -39,9 +39,6 @@ after-5a c =
     let left = on _ group-5a _ _ (before-it .0) (c .step-5a .ensures) in
     (left .0, left .1 ∙ ap (leaves group-5a) (before-it .1))
 
-step-3-requires : tie.Need-step-3-requires
-step-3-requires c κs = search needs
-
 slice-aggregate-step-4 : tie.Need-slice-aggregate-step-4
 slice-aggregate-step-4 c = sym (length-take-le _ _ (after-3 (c .before) .0))
 
@@ -75,5 +72,5 @@ returns c =
 pub cut-last-spec : {M : Type 1} → statement M
 cut-last-spec =
     tie.close
-    (tie.spec step-3-requires slice-aggregate-step-4 step-4-requires slice-aggregate-step-5a step-5a-requires slice-aggregate-step-5b
-    step-5b-requires returns)
+    (tie.spec (λ c κs. search needs) slice-aggregate-step-4 step-4-requires slice-aggregate-step-5a step-5a-requires
+    slice-aggregate-step-5b step-5b-requires returns)

@@ -50,26 +50,8 @@ module _ (c : tie.After-rules2) where
   other : r ≡ 3 → ⊥
   other = c .before .before .before .if2 .left
 
-follow-up-requires : tie.Need-follow-up-requires
-follow-up-requires c κs = search needs
-
-slice-reshare-prefix-chosen-follow-up : tie.Need-slice-reshare-prefix-chosen-follow-up
-slice-reshare-prefix-chosen-follow-up c = search needs
-
 slice-aggregate-chosen-follow-up : tie.Need-slice-aggregate-chosen-follow-up
 slice-aggregate-chosen-follow-up c = let s = c .before .before .before .before in sym (length-take-le _ _ (s .pre .0 .within))
-
-slice-aggregate-chosen-follow-up-2 : tie.Need-slice-aggregate-chosen-follow-up-2
-slice-aggregate-chosen-follow-up-2 c = search needs
-
-chosen-follow-up-requires : tie.Need-chosen-follow-up-requires
-chosen-follow-up-requires c κs = search needs
-
-same-length : tie.Need-same-length
-same-length c = search needs
-
-same-length-2 : tie.Need-same-length-2
-same-length-2 c = search needs
 
 returns : tie.Need-returns
 unfolding follow-up
@@ -77,15 +59,6 @@ returns c =
     let s = c .before .before .before .before .before .before .before .before in
     let chosen = ap (picked follow-up) (sym (c .if1 .taken)) ∙ c .before .chosen-follow-up .ensures .0 in
     (sym (none-leaves follow-up (take (s .args .len) (s .args .word .now)) chosen), s .pre .0)
-
-less-one-requires : tie.Need-less-one-requires
-less-one-requires c κs = search needs
-
-same-length-3 : tie.Need-same-length-3
-same-length-3 c = search needs
-
-same-length-4 : tie.Need-same-length-4
-same-length-4 c = search needs
 
 returns-2 : tie.Need-returns-2
 unfolding single follow-up
@@ -100,9 +73,6 @@ returns-2 c =
     = rw there (take-take (len - 1) len place (omega arith)) in
     (ap (λ (k : ℕ). take k place) (c .less-one .ensures) ∙ sym (left ∙ front), shorter (s .pre .0) _ (omega (arith, c .less-one .ensures)))
 
-slice-aggregate-obey : tie.Need-slice-aggregate-obey
-slice-aggregate-obey c = search needs
-
 obey-requires : tie.Need-obey-requires
 obey-requires c κs =
     let st = s c in
@@ -111,12 +81,6 @@ obey-requires c κs =
     let long = written-length (st .args .word .now) (st .args .len) (st .pre .0 .within) _ follow-up (held c) (r c) (known c) chosen
     (writes (r c) (omega (arith, known c, five)) (other c)) in
     ((st .pre .0, (held c .rows (r c) (known c), size)), omega (arith, long, st .pre .1))
-
-same-length-5 : tie.Need-same-length-5
-same-length-5 c = search needs
-
-same-length-6 : tie.Need-same-length-6
-same-length-6 c = search needs
 
 returns-3 : tie.Need-returns-3
 returns-3 c =
@@ -130,6 +94,6 @@ returns-3 c =
 pub follow-spec : {M : Type 1} → statement M
 follow-spec =
     tie.close
-    (tie.spec follow-up-requires slice-reshare-prefix-chosen-follow-up slice-aggregate-chosen-follow-up slice-aggregate-chosen-follow-up-2
-    chosen-follow-up-requires same-length same-length-2 returns less-one-requires same-length-3 same-length-4 returns-2
-    slice-aggregate-obey obey-requires same-length-5 same-length-6 returns-3)
+    (tie.spec (λ c κs. search needs) (λ c. search needs) slice-aggregate-chosen-follow-up (λ c. search needs) (λ c κs. search needs)
+    (λ c. search needs) (λ c. search needs) returns (λ c κs. search needs) (λ c. search needs) (λ c. search needs) returns-2
+    (λ c. search needs) obey-requires (λ c. search needs) (λ c. search needs) returns-3)

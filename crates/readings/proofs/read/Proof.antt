@@ -67,15 +67,6 @@ module _ (c : tie.After-states3) where
       let says = takes (length word) _ (c .before .before .if1 .left) in
       (says .0 ∙ ap (judgedBy (length word)) found ∙ judged-by word, (says .1 .0, omega (arith, says .1 .1, found)))
 
-slice-aggregate-note : tie.Need-slice-aggregate-note
-slice-aggregate-note c = search needs
-
-note-requires : tie.Need-note-requires
-note-requires c κs = search needs
-
-same-length : tie.Need-same-length
-same-length c = search needs
-
 returns : tie.Need-returns
 returns c =
     let word = c .before .before .before .before .before .before .args .word .now in
@@ -86,9 +77,6 @@ returns c =
         λ other. refl,
       ),
     )
-
-slice-aggregate-read-by : tie.Need-slice-aggregate-read-by
-slice-aggregate-read-by c = search needs
 
 read-by-requires : tie.Need-read-by-requires
 read-by-requires c κs =
@@ -101,9 +89,6 @@ read-by-requires c κs =
       noted = notes (word c) _ _ refl (omega (arith, at-most .0)) (at-most .0) (at-most .1) (made .ensures .1);
     }
 
-same-length-2 : tie.Need-same-length-2
-same-length-2 c = search needs
-
 returns-2 : tie.Need-returns-2
 returns-2 c =
     let noted = c .before .before .before .before .before .before .before .before .note in
@@ -114,4 +99,5 @@ returns-2 c =
 pub read-spec : {M : Type 1} → statement M
 read-spec =
     tie.close
-    (tie.spec slice-aggregate-note note-requires same-length returns slice-aggregate-read-by read-by-requires same-length-2 returns-2)
+    (tie.spec (λ c. search needs) (λ c κs. search needs) (λ c. search needs) returns (λ c. search needs) read-by-requires
+    (λ c. search needs) returns-2)

@@ -24,9 +24,6 @@ opened-of c = third-of c .before .before .before .before .before .before .before
 abbrev first-of : tie.After-cut-last → tie.After-step-1a
 first-of c = opened-of c .before .before .before
 
-step-1a-requires : tie.Need-step-1a-requires
-step-1a-requires c κs = search needs
-
 step-1b-requires : tie.Need-step-1b-requires
 step-1b-requires c κs =
     let s = c .before .before .before .before .before .before in
@@ -35,26 +32,8 @@ step-1b-requires c κs =
     let fits = rw (← first .ensures .left) at (shipped-reads word .0) in
     (shorter (s .pre) (first .result) (first .ensures .within), fits)
 
-step-1c-requires : tie.Need-step-1c-requires
-step-1c-requires c κs = search needs
-
-step-2-requires : tie.Need-step-2-requires
-step-2-requires c κs = search needs
-
-slice-reshare-prefix-cut-last : tie.Need-slice-reshare-prefix-cut-last
-slice-reshare-prefix-cut-last c = search needs
-
 slice-aggregate-cut-last : tie.Need-slice-aggregate-cut-last
 slice-aggregate-cut-last c = sym (length-take-le _ _ (c .before .before .before .before .before .step-2 .ensures .1 .within))
-
-cut-last-requires : tie.Need-cut-last-requires
-cut-last-requires c κs = search needs
-
-same-length : tie.Need-same-length
-same-length c = search needs
-
-same-length-2 : tie.Need-same-length-2
-same-length-2 c = search needs
 
 returns : tie.Need-returns
 returns c =
@@ -80,5 +59,5 @@ returns c =
 pub read-by-spec : {M : Type 1} → statement M
 read-by-spec =
     tie.close
-    (tie.spec step-1a-requires step-1b-requires step-1c-requires step-2-requires slice-reshare-prefix-cut-last slice-aggregate-cut-last
-    cut-last-requires same-length same-length-2 returns)
+    (tie.spec (λ c κs. search needs) step-1b-requires (λ c κs. search needs) (λ c κs. search needs) (λ c. search needs)
+    slice-aggregate-cut-last (λ c κs. search needs) (λ c. search needs) (λ c. search needs) returns)

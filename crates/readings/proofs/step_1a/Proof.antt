@@ -58,9 +58,6 @@ misses-3 c =
     none-more (ruleOf group-1a) 2 (word g) (misses-2 (c .before .before .before))
     (tells g 2 (omega arith) (c .before .before .fits4 .ensures) ∙ c .before .if4 .left)
 
-letter-at-requires : tie.Need-letter-at-requires
-letter-at-requires c κs = search needs
-
 returns : tie.Need-returns
 unfolding letters
 returns c =
@@ -68,17 +65,8 @@ returns c =
     none-cuts (cuts-1a (rowsOf group-1a) refl) word (letters "s") last-1a
     (rw (← c .before .letter-at .ensures) (not-one _ 115 (c .if1 .taken))) .1
 
-group-1a-requires : tie.Need-group-1a-requires
-group-1a-requires c κs = search needs
-
-slice-aggregate-fits : tie.Need-slice-aggregate-fits
-slice-aggregate-fits c = search needs
-
 fits-requires : tie.Need-fits-requires
 fits-requires c κs = cuts-1a _ (c .before .group-1a .ensures) .held .rows 0 (omega (arith, four))
-
-slice-aggregate-cut : tie.Need-slice-aggregate-cut
-slice-aggregate-cut c = search needs
 
 cut-requires : tie.Need-cut-requires
 cut-requires c κs =
@@ -94,14 +82,8 @@ returns-2 c =
     cut-gives (here g) (word g) 0 (omega (arith, four)) ends (none-yet (ruleOf group-1a) (word g)) _
     (always-holds (word g) (ruleOf group-1a 0) refl) (c .cut .ensures) .1
 
-slice-aggregate-fits-2 : tie.Need-slice-aggregate-fits-2
-slice-aggregate-fits-2 c = search needs
-
 fits-requires-2 : tie.Need-fits-requires-2
 fits-requires-2 c κs = here (c .before .before .before .before) .held .rows 1 (omega (arith, four))
-
-slice-aggregate-cut-2 : tie.Need-slice-aggregate-cut-2
-slice-aggregate-cut-2 c = search needs
 
 cut-requires-2 : tie.Need-cut-requires-2
 cut-requires-2 c κs =
@@ -117,14 +99,8 @@ returns-3 c =
     cut-gives (here g) (word g) 1 (omega (arith, four)) ends (misses-1 (c .before .before .before .before)) _
     (always-holds (word g) (ruleOf group-1a 1) refl) (c .cut2 .ensures) .1
 
-slice-aggregate-fits-3 : tie.Need-slice-aggregate-fits-3
-slice-aggregate-fits-3 c = search needs
-
 fits-requires-3 : tie.Need-fits-requires-3
 fits-requires-3 c κs = here (c .before .before .before .before .before .before .before) .held .rows 2 (omega (arith, four))
-
-slice-aggregate-cut-3 : tie.Need-slice-aggregate-cut-3
-slice-aggregate-cut-3 c = search needs
 
 cut-requires-3 : tie.Need-cut-requires-3
 cut-requires-3 c κs =
@@ -139,9 +115,6 @@ returns-4 c =
     let ends = tells g 2 (omega arith) (c .before .before .before .fits4 .ensures) ∙ c .before .before .if4 .taken in
     cut-gives (here g) (word g) 2 (omega (arith, four)) ends (misses-2 (c .before .before .before .before)) _
     (always-holds (word g) (ruleOf group-1a 2) refl) (c .cut3 .ensures) .1
-
-slice-aggregate-cut-4 : tie.Need-slice-aggregate-cut-4
-slice-aggregate-cut-4 c = search needs
 
 cut-requires-4 : tie.Need-cut-requires-4
 cut-requires-4 c κs =
@@ -158,6 +131,6 @@ returns-5 c =
 pub step-1a-spec : {M : Type 1} → statement M
 step-1a-spec =
     tie.close
-    (tie.spec letter-at-requires returns group-1a-requires slice-aggregate-fits fits-requires slice-aggregate-cut cut-requires returns-2
-    slice-aggregate-fits-2 fits-requires-2 slice-aggregate-cut-2 cut-requires-2 returns-3 slice-aggregate-fits-3 fits-requires-3
-    slice-aggregate-cut-3 cut-requires-3 returns-4 slice-aggregate-cut-4 cut-requires-4 returns-5)
+    (tie.spec (λ c κs. search needs) returns (λ c κs. search needs) (λ c. search needs) fits-requires (λ c. search needs) cut-requires
+    returns-2 (λ c. search needs) fits-requires-2 (λ c. search needs) cut-requires-2 returns-3 (λ c. search needs) fits-requires-3
+    (λ c. search needs) cut-requires-3 returns-4 (λ c. search needs) cut-requires-4 returns-5)

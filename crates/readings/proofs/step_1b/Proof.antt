@@ -45,14 +45,8 @@ module _ (c : tie.After-cut-1b) where
   unfolding leavesOpened
   then-stays is = rw (opened is) (sym front)
 
-slice-reshare-prefix-cut-1b : tie.Need-slice-reshare-prefix-cut-1b
-slice-reshare-prefix-cut-1b c = search needs
-
 slice-aggregate-cut-1b : tie.Need-slice-aggregate-cut-1b
 slice-aggregate-cut-1b c = let s = c .before .before .before in sym (length-take-le _ _ (s .pre .0 .within))
-
-cut-1b-requires : tie.Need-cut-1b-requires
-cut-1b-requires c κs = search needs
 
 follow-requires : tie.Need-follow-requires
 follow-requires c κs =
@@ -60,23 +54,11 @@ follow-requires c κs =
     let long = ap length (then-follows read (c .before .before .if1 .taken)) in
     (shorter (s read .pre .0) (left read) (less read), omega (arith, long, s read .pre .1))
 
-same-length : tie.Need-same-length
-same-length c = search needs
-
-same-length-2 : tie.Need-same-length-2
-same-length-2 c = search needs
-
 returns : tie.Need-returns
 returns c =
     let read = c .before .before .before .before .before .before .before .before in
     let ran = c .before .before .before .before .follow in
     (ran .ensures .0 ∙ sym (then-follows read (c .before .before .before .before .before .before .before .if1 .taken)), ran .ensures .1)
-
-same-length-3 : tie.Need-same-length-3
-same-length-3 c = search needs
-
-same-length-4 : tie.Need-same-length-4
-same-length-4 c = search needs
 
 returns-2 : tie.Need-returns-2
 returns-2 c =
@@ -86,5 +68,5 @@ returns-2 c =
 pub step-1b-spec : {M : Type 1} → statement M
 step-1b-spec =
     tie.close
-    (tie.spec slice-reshare-prefix-cut-1b slice-aggregate-cut-1b cut-1b-requires follow-requires same-length same-length-2 returns
-    same-length-3 same-length-4 returns-2)
+    (tie.spec (λ c. search needs) slice-aggregate-cut-1b (λ c κs. search needs) follow-requires (λ c. search needs) (λ c. search needs)
+    returns (λ c. search needs) (λ c. search needs) returns-2)

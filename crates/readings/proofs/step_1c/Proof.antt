@@ -56,17 +56,8 @@ module _ (c : tie.After-group-1c) where
   says : {b : Bool} → b ≡ applies word (ruleAt table 0) → applies word (ruleOf group-1c 0) ≡ b
   says is = ap (applies word) (sym (held .same 0 (omega (arith, one)))) ∙ sym is
 
-slice-reshare-prefix-letter-at : tie.Need-slice-reshare-prefix-letter-at
-slice-reshare-prefix-letter-at c = search needs
-
 slice-aggregate-letter-at : tie.Need-slice-aggregate-letter-at
 slice-aggregate-letter-at c = let s = c .before .before .before in sym (length-take-le _ _ (s .pre .within))
-
-letter-at-requires : tie.Need-letter-at-requires
-letter-at-requires c κs = search needs
-
-same-length : tie.Need-same-length
-same-length c = search needs
 
 returns : tie.Need-returns
 unfolding letters
@@ -77,17 +68,8 @@ returns c =
     (rw (← c .before .letter-at .ensures) (not-one _ 121 (c .if1 .taken)))) in
     (sym (none-leaves group-1c word (sym stays)), s .pre)
 
-group-1c-requires : tie.Need-group-1c-requires
-group-1c-requires c κs = search needs
-
-slice-reshare-prefix-reached : tie.Need-slice-reshare-prefix-reached
-slice-reshare-prefix-reached c = search needs
-
 slice-aggregate-reached : tie.Need-slice-aggregate-reached
 slice-aggregate-reached c = let s = c .before .before .before .before .before .before .before in sym (length-take-le _ _ (s .pre .within))
-
-slice-aggregate-reached-2 : tie.Need-slice-aggregate-reached-2
-slice-aggregate-reached-2 c = search needs
 
 reached-requires : tie.Need-reached-requires
 unfolding letters rule group-1c
@@ -98,9 +80,6 @@ reached-requires c κs =
       (s g .pre .noted, fits-within (table g) group-1c (held g) (word g) 0 (omega (arith, one)) (ends g)),
     )
 
-slice-aggregate-obey : tie.Need-slice-aggregate-obey
-slice-aggregate-obey c = search needs
-
 obey-requires : tie.Need-obey-requires
 obey-requires c κs =
     let g = c .before .before .before .before .before .before .before .before in
@@ -110,12 +89,6 @@ obey-requires c κs =
       (s g .pre, (held g .rows 0 (omega (arith, one)), omega (arith, fit, there g))),
       omega (arith, fit, there g, size, more, s g .pre .within),
     )
-
-same-length-2 : tie.Need-same-length-2
-same-length-2 c = search needs
-
-same-length-3 : tie.Need-same-length-3
-same-length-3 c = search needs
 
 returns-2 : tie.Need-returns-2
 unfolding letters rule group-1c
@@ -129,12 +102,6 @@ returns-2 c =
     chosen refl in
     (ran .ensures .0 ∙ sym left, ran .ensures .1)
 
-same-length-4 : tie.Need-same-length-4
-same-length-4 c = search needs
-
-same-length-5 : tie.Need-same-length-5
-same-length-5 c = search needs
-
 returns-3 : tie.Need-returns-3
 returns-3 c =
     let g = c .before .before .before .before .before in
@@ -144,6 +111,6 @@ returns-3 c =
 pub step-1c-spec : {M : Type 1} → statement M
 step-1c-spec =
     tie.close
-    (tie.spec slice-reshare-prefix-letter-at slice-aggregate-letter-at letter-at-requires same-length returns group-1c-requires
-    slice-reshare-prefix-reached slice-aggregate-reached slice-aggregate-reached-2 reached-requires slice-aggregate-obey obey-requires
-    same-length-2 same-length-3 returns-2 same-length-4 same-length-5 returns-3)
+    (tie.spec (λ c. search needs) slice-aggregate-letter-at (λ c κs. search needs) (λ c. search needs) returns (λ c κs. search needs)
+    (λ c. search needs) slice-aggregate-reached (λ c. search needs) reached-requires (λ c. search needs) obey-requires (λ c. search needs)
+    (λ c. search needs) returns-2 (λ c. search needs) (λ c. search needs) returns-3)

@@ -30,26 +30,11 @@ returns c =
     let s = c .before .before .before in
     stays s (short-2 (word s) (omega (arith, size s)))
 
-slice-reshare-prefix-letter-at : tie.Need-slice-reshare-prefix-letter-at
-slice-reshare-prefix-letter-at c = search needs
-
 slice-aggregate-letter-at : tie.Need-slice-aggregate-letter-at
 slice-aggregate-letter-at c = sym (size (c .before .before .before .before))
 
-letter-at-requires : tie.Need-letter-at-requires
-letter-at-requires c κs = search needs
-
-block-2-requires : tie.Need-block-2-requires
-block-2-requires c κs = search needs
-
-slice-reshare-prefix-kept : tie.Need-slice-reshare-prefix-kept
-slice-reshare-prefix-kept c = search needs
-
 slice-aggregate-kept : tie.Need-slice-aggregate-kept
 slice-aggregate-kept c = sym (size (c .before .before .before .before .before .before .before))
-
-kept-requires : tie.Need-kept-requires
-kept-requires c κs = search needs
 
 within-2-requires : tie.Need-within-2-requires
 within-2-requires c κs =
@@ -57,18 +42,6 @@ within-2-requires c κs =
     let s = b .before .before .before .before .before .before in
     let asks = block-asks group-2 _ _ _ _ _ (b .block-2 .ensures) (word s) (b .before .letter-at .ensures) size-2 in
     ((s .pre, asks .0), asks .1)
-
-same-length : tie.Need-same-length
-same-length c = search needs
-
-same-length-2 : tie.Need-same-length-2
-same-length-2 c = search needs
-
-returns-2 : tie.Need-returns-2
-returns-2 c = search needs
-
-same-length-3 : tie.Need-same-length-3
-same-length-3 c = search needs
 
 returns-3 : tie.Need-returns-3
 returns-3 c =
@@ -80,5 +53,6 @@ returns-3 c =
 pub step-2-spec : {M : Type 1} → statement M
 step-2-spec =
     tie.close
-    (tie.spec returns slice-reshare-prefix-letter-at slice-aggregate-letter-at letter-at-requires block-2-requires slice-reshare-prefix-kept
-    slice-aggregate-kept kept-requires within-2-requires same-length same-length-2 returns-2 same-length-3 returns-3)
+    (tie.spec returns (λ c. search needs) slice-aggregate-letter-at (λ c κs. search needs) (λ c κs. search needs) (λ c. search needs)
+    slice-aggregate-kept (λ c κs. search needs) within-2-requires (λ c. search needs) (λ c. search needs) (λ c. search needs)
+    (λ c. search needs) returns-3)

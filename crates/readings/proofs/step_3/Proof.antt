@@ -11,24 +11,12 @@ returns c =
     let word = c .before .before .before .args .word .now in
     kept-whole group-3 word (short-3 word (c .if1 .taken))
 
-letter-at-requires : tie.Need-letter-at-requires
-letter-at-requires c κs = search needs
-
-block-3-requires : tie.Need-block-3-requires
-block-3-requires c κs = search needs
-
-kept-requires : tie.Need-kept-requires
-kept-requires c κs = search needs
-
 within-3-requires : tie.Need-within-3-requires
 within-3-requires c κs =
     let b = c .before .before in
     let s = b .before .before .before .before .before in
     let asks = block-asks group-3 _ _ _ _ _ (b .block-3 .ensures) (s .args .word .now) (b .before .letter-at .ensures) size-3 in
     ((s .pre, asks .0), asks .1)
-
-returns-2 : tie.Need-returns-2
-returns-2 c = search needs
 
 returns-3 : tie.Need-returns-3
 returns-3 c =
@@ -38,4 +26,5 @@ returns-3 c =
     (block-fails group-3 _ _ _ _ _ (b .block-3 .ensures) word (b .before .letter-at .ensures) (c .before .kept .ensures) (c .if2 .left))
 
 pub step-3-spec : {M : Type 1} → statement M
-step-3-spec = tie.close (tie.spec returns letter-at-requires block-3-requires kept-requires within-3-requires returns-2 returns-3)
+step-3-spec = tie.close
+    (tie.spec returns (λ c κs. search needs) (λ c κs. search needs) (λ c κs. search needs) within-3-requires (λ c. search needs) returns-3)

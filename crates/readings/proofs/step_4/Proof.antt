@@ -11,24 +11,12 @@ returns c =
     let word = c .before .before .before .args .word .now in
     kept-whole group-4 word (short-4 word (c .if1 .taken))
 
-letter-at-requires : tie.Need-letter-at-requires
-letter-at-requires c κs = search needs
-
-block-4-requires : tie.Need-block-4-requires
-block-4-requires c κs = search needs
-
-kept-requires : tie.Need-kept-requires
-kept-requires c κs = search needs
-
 within-4-requires : tie.Need-within-4-requires
 within-4-requires c κs =
     let b = c .before .before in
     let s = b .before .before .before .before .before in
     let asks = block-asks group-4 _ _ _ _ _ (b .block-4 .ensures) (s .args .word .now) (b .before .letter-at .ensures) size-4 in
     ((s .pre, asks .0), asks .1)
-
-returns-2 : tie.Need-returns-2
-returns-2 c = search needs
 
 returns-3 : tie.Need-returns-3
 returns-3 c =
@@ -38,4 +26,5 @@ returns-3 c =
     (block-fails group-4 _ _ _ _ _ (b .block-4 .ensures) word (b .before .letter-at .ensures) (c .before .kept .ensures) (c .if2 .left))
 
 pub step-4-spec : {M : Type 1} → statement M
-step-4-spec = tie.close (tie.spec returns letter-at-requires block-4-requires kept-requires within-4-requires returns-2 returns-3)
+step-4-spec = tie.close
+    (tie.spec returns (λ c κs. search needs) (λ c κs. search needs) (λ c κs. search needs) within-4-requires (λ c. search needs) returns-3)

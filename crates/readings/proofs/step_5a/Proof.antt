@@ -95,9 +95,6 @@ module _ (g : tie.After-group-5a) where
   second fails =
       second-judged word group-5a 0 order-5a (omega arith) (none-yet (ruleOf group-5a) word) (ends 0 (omega arith)) fails refl refl
 
-letter-at-requires : tie.Need-letter-at-requires
-letter-at-requires c κs = search needs
-
 returns : tie.Need-returns
 unfolding letters
 returns c =
@@ -106,21 +103,12 @@ returns c =
     (undecided word group-5a
     (other-last word (letters "e") group-5a last-5a (rw (← c .before .letter-at .ensures) (not-one _ 101 (c .if1 .taken)))))
 
-group-5a-requires : tie.Need-group-5a-requires
-group-5a-requires c κs = search needs
-
-slice-aggregate-reached : tie.Need-slice-aggregate-reached
-slice-aggregate-reached c = search needs
-
 reached-requires : tie.Need-reached-requires
 reached-requires c κs =
     let g = c .before in (
       (row g 0 (omega arith), rw (same-rule g 0 (omega arith)) (ltb-true _ 4 light)),
       (c .before .before .before .before .before .before .pre, within g 0 (omega arith)),
     )
-
-slice-aggregate-cut : tie.Need-slice-aggregate-cut
-slice-aggregate-cut c = search needs
 
 cut-requires : tie.Need-cut-requires
 cut-requires c κs = asks (c .before .before .before .before) 0 (omega arith)
@@ -132,16 +120,10 @@ returns-2 c =
     gives g 0 (omega arith) (c .cut .ensures)
     (first-holds (word g) group-5a 0 order-5a (omega (arith, two)) (none-yet (ruleOf group-5a) (word g)) (ends g 0 (omega arith)) holds)
 
-slice-aggregate-allowed : tie.Need-slice-aggregate-allowed
-slice-aggregate-allowed c = search needs
-
 allowed-requires : tie.Need-allowed-requires
 allowed-requires c κs =
     let g = c .before .before .before .before in
     (row g 1 (omega arith), (g .before .before .before .before .before .pre, within g 1 (omega arith)))
-
-slice-aggregate-cut-2 : tie.Need-slice-aggregate-cut-2
-slice-aggregate-cut-2 c = search needs
 
 cut-requires-2 : tie.Need-cut-requires-2
 cut-requires-2 c κs = asks (c .before .before .before .before .before .before .before) 1 (omega arith)
@@ -165,5 +147,5 @@ returns-4 c =
 pub step-5a-spec : {M : Type 1} → statement M
 step-5a-spec =
     tie.close
-    (tie.spec letter-at-requires returns group-5a-requires slice-aggregate-reached reached-requires slice-aggregate-cut cut-requires
-    returns-2 slice-aggregate-allowed allowed-requires slice-aggregate-cut-2 cut-requires-2 returns-3 returns-4)
+    (tie.spec (λ c κs. search needs) returns (λ c κs. search needs) (λ c. search needs) reached-requires (λ c. search needs) cut-requires
+    returns-2 (λ c. search needs) allowed-requires (λ c. search needs) cut-requires-2 returns-3 returns-4)

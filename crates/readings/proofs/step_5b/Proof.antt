@@ -67,17 +67,8 @@ module _ (g : tie.After-group-5b) where
   says : {b : Bool} → b ≡ applies word (ruleAt (g .group-5b .result) 0) → applies word (ruleOf group-5b 0) ≡ b
   says is = ap (applies word) (sym (here .same 0 known)) ∙ sym is
 
-letter-at-requires : tie.Need-letter-at-requires
-letter-at-requires c κs = search needs
-
 returns : tie.Need-returns
 returns c = kept _ (other-letter _ (rw (← c .before .letter-at .ensures) (c .if1 .taken)))
-
-group-5b-requires : tie.Need-group-5b-requires
-group-5b-requires c κs = search needs
-
-slice-aggregate-allowed : tie.Need-slice-aggregate-allowed
-slice-aggregate-allowed c = search needs
 
 allowed-requires : tie.Need-allowed-requires
 allowed-requires c κs =
@@ -85,9 +76,6 @@ allowed-requires c κs =
       here g .rows 0 (known g),
       (g .before .before .before .before .before .pre, fits-within _ group-5b (here g) (word g) 0 (known g) (ends (word g))),
     )
-
-less-one-requires : tie.Need-less-one-requires
-less-one-requires c κs = search needs
 
 returns-2 : tie.Need-returns-2
 returns-2 c =
@@ -100,4 +88,5 @@ returns-3 c = let g = c .before .before .before in kept (word g) (says g (c .bef
 pub step-5b-spec : {M : Type 1} → statement M
 step-5b-spec =
     tie.close
-    (tie.spec letter-at-requires returns group-5b-requires slice-aggregate-allowed allowed-requires less-one-requires returns-2 returns-3)
+    (tie.spec (λ c κs. search needs) returns (λ c κs. search needs) (λ c. search needs) allowed-requires (λ c κs. search needs) returns-2
+    returns-3)

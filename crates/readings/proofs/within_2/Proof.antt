@@ -27,26 +27,8 @@ module _ (c : tie.Else1) where
   known : r < length group-2
   known = omega (arith, size-2, c .before .chosen-2 .ensures .1)
 
-group-2-requires : tie.Need-group-2-requires
-group-2-requires c κs = search needs
-
-slice-reshare-prefix-chosen-2 : tie.Need-slice-reshare-prefix-chosen-2
-slice-reshare-prefix-chosen-2 c = search needs
-
 slice-aggregate-chosen-2 : tie.Need-slice-aggregate-chosen-2
 slice-aggregate-chosen-2 c = sym (length-take-le _ _ (c .before .before .before .before .pre .0 .0 .within))
-
-slice-aggregate-chosen-2-2 : tie.Need-slice-aggregate-chosen-2-2
-slice-aggregate-chosen-2-2 c = search needs
-
-chosen-2-requires : tie.Need-chosen-2-requires
-chosen-2-requires c κs = search needs
-
-same-length : tie.Need-same-length
-same-length c = search needs
-
-same-length-2 : tie.Need-same-length-2
-same-length-2 c = search needs
 
 returns : tie.Need-returns
 unfolding group-2
@@ -54,9 +36,6 @@ returns c =
     let s = c .before .before .before .before .before .before .before .before in
     let nothing = sym (ap (picked group-2) (c .if1 .taken)) ∙ c .before .chosen-2 .ensures .0 in
     (sym (none-leaves group-2 (take (s .args .len) (s .args .word .now)) nothing), s .pre .0 .0)
-
-slice-aggregate-obey : tie.Need-slice-aggregate-obey
-slice-aggregate-obey c = search needs
 
 obey-requires : tie.Need-obey-requires
 obey-requires c κs =
@@ -68,12 +47,6 @@ obey-requires c κs =
       omega (arith, size, long, stands .within, adds-less (here e) (r e) (known e) shrinks-2),
     )
 
-same-length-3 : tie.Need-same-length-3
-same-length-3 c = search needs
-
-same-length-4 : tie.Need-same-length-4
-same-length-4 c = search needs
-
 returns-2 : tie.Need-returns-2
 returns-2 c =
     let o = c .before .before .before .before in
@@ -84,5 +57,5 @@ returns-2 c =
 pub within-2-spec : {M : Type 1} → statement M
 within-2-spec =
     tie.close
-    (tie.spec group-2-requires slice-reshare-prefix-chosen-2 slice-aggregate-chosen-2 slice-aggregate-chosen-2-2 chosen-2-requires
-    same-length same-length-2 returns slice-aggregate-obey obey-requires same-length-3 same-length-4 returns-2)
+    (tie.spec (λ c κs. search needs) (λ c. search needs) slice-aggregate-chosen-2 (λ c. search needs) (λ c κs. search needs)
+    (λ c. search needs) (λ c. search needs) returns (λ c. search needs) obey-requires (λ c. search needs) (λ c. search needs) returns-2)

@@ -6,12 +6,6 @@ use Rattle.readings.proofs.Tests.{cuts-3}
 use Rattle.readings.proofs.within_3.Statement.{statement}
 use Rattle.readings.proofs.within_3.Tie as tie
 
-group-3-requires : tie.Need-group-3-requires
-group-3-requires c κs = search needs
-
-slice-aggregate-cut-by : tie.Need-slice-aggregate-cut-by
-slice-aggregate-cut-by c = search needs
-
 cut-by-requires : tie.Need-cut-by-requires
 cut-by-requires c κs =
     let pre = c .before .before .before .before .pre in
@@ -25,4 +19,5 @@ returns c =
     c .cut-by .ensures group-3 (narrowed (here .held) (here .decides-one) size-3 (pre .0 .1 .1) (pre .1))
 
 pub within-3-spec : {M : Type 1} → statement M
-within-3-spec = tie.close (tie.spec group-3-requires slice-aggregate-cut-by cut-by-requires returns)
+within-3-spec = tie.close
+    (tie.spec (λ c κs. search needs) (λ c. search needs) cut-by-requires returns)

@@ -11,22 +11,10 @@ returns : tie.Need-returns
 unfolding groupRecord faultyGroup
 returns c = simp (ne-eqb _ _ (c .if1 .taken))
 
-shared-slice-read-pair : tie.Need-shared-slice-read-pair
-shared-slice-read-pair c = search needs
-
-shared-slice-read-pair-2 : tie.Need-shared-slice-read-pair-2
-shared-slice-read-pair-2 c = search needs
-
-pair-requires : tie.Need-pair-requires
-pair-requires c κs = search needs
-
 returns-2 : tie.Need-returns-2
 unfolding groupRecord faultyGroup gateNumber number
 returns-2 c =
     simp (eq-eqb _ _ (c .before .before .before .before .if1 .left), ← c .before .pair .ensures .0, lt-ltb _ _ (c .if2 .taken))
-
-add-next : tie.Need-add-next
-add-next c = search needs
 
 returns-3 : tie.Need-returns-3
 unfolding groupRecord faultyGroup gateNumber number
@@ -36,5 +24,4 @@ returns-3 c =
 pub group-in-spec : {M : Type 1} → statement M
 group-in-spec =
     tie.close
-    (tie.spec
-    returns shared-slice-read-pair shared-slice-read-pair-2 pair-requires returns-2 add-next returns-3)
+    (tie.spec returns (λ c. search needs) (λ c. search needs) (λ c κs. search needs) returns-2 (λ c. search needs) returns-3)

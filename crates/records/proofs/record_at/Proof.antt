@@ -54,15 +54,6 @@ module _ (sheet : List ℕ) (at : ℕ) where
           let second : length (after (drop at sheet)) ≡ 0 = omega (arith, left-is) in
           rw (← of-end) (simp (first, second))
 
-frame-at-requires : tie.Need-frame-at-requires
-frame-at-requires c κs = search needs
-
-enum-told : tie.Need-enum-told
-enum-told c = search needs
-
-enum-known-frame : tie.Need-enum-known-frame
-enum-known-frame c = search needs
-
 -- what the frame says
 frame-of : (c : tie.After-known-told)
     → (let args = c .before .before .before .before .before .args in
@@ -83,9 +74,6 @@ part-group-in-start c = frame-of (c .before) .ahead
 part-group-in-end : tie.Need-part-group-in-end
 part-group-in-end c = frame-of (c .before) .inside
 
-group-in-requires : tie.Need-group-in-requires
-group-in-requires c κs = search needs
-
 returns : tie.Need-returns
 unfolding recordAt
 returns c =
@@ -100,9 +88,6 @@ part-rule-in-start c = frame-of (c .before .before) .ahead
 
 part-rule-in-end : tie.Need-part-rule-in-end
 part-rule-in-end c = frame-of (c .before .before) .inside
-
-rule-in-requires : tie.Need-rule-in-requires
-rule-in-requires c κs = search needs
 
 returns-2 : tie.Need-returns-2
 unfolding recordAt
@@ -139,6 +124,6 @@ returns-7 c =
 pub record-at-spec : {M : Type 1} → statement M
 record-at-spec =
     tie.close
-    (tie.spec
-    frame-at-requires enum-told enum-known-frame sub-group-in part-group-in-start part-group-in-end group-in-requires returns
-    sub-rule-in part-rule-in-start part-rule-in-end rule-in-requires returns-2 returns-3 returns-4 returns-5 returns-6 returns-7)
+    (tie.spec (λ c κs. search needs) (λ c. search needs) (λ c. search needs) sub-group-in part-group-in-start part-group-in-end
+    (λ c κs. search needs) returns sub-rule-in part-rule-in-start part-rule-in-end (λ c κs. search needs) returns-2 returns-3 returns-4
+    returns-5 returns-6 returns-7)

@@ -43,9 +43,6 @@ sheet c = c .before .before .before .before .args .sheet .now
 
 -- ## A group
 
-enum-known-found : tie.Need-enum-known-found Inv-loop μ-loop
-enum-known-found c = search needs
-
 misplaced-group-requires : tie.Need-misplaced-group-requires Inv-loop μ-loop
 misplaced-group-requires c κs = tt
 
@@ -100,9 +97,6 @@ loop-again c =
     )
 
 -- ## A rule
-
-enum-known-found-2 : tie.Need-enum-known-found-2 Inv-loop μ-loop
-enum-known-found-2 c = search needs
 
 misplaced-rule-requires : tie.Need-misplaced-rule-requires Inv-loop μ-loop
 misplaced-rule-requires c κs = tt
@@ -196,17 +190,11 @@ loop-again-2 c =
 
 -- ## The end, a faulty record, and nothing left
 
-enum-told : tie.Need-enum-told Inv-loop μ-loop
-enum-told c = search needs
-
 returns-3 : tie.Need-returns-3 Inv-loop μ-loop
 returns-3 c =
     let drawn = c .before .before in
     last-record (drawn .before .before .loop .inv .5)
     (record-here (sheet drawn) (drawn .before .before .loop .at) End (sym (drawn .draw .ensures) ∙ c .enum-told .given .1))
-
-enum-told-2 : tie.Need-enum-told-2 Inv-loop μ-loop
-enum-told-2 c = search needs
 
 returns-4 : tie.Need-returns-4 Inv-loop μ-loop
 returns-4 c =
@@ -226,8 +214,7 @@ returns-5 c =
 pub check-spec : {M : Type 1} → statement M
 check-spec =
     tie.close
-    (tie.spec
-    Inv-loop μ-loop loop-holds draw-requires enum-known-found misplaced-group-requires returns add-groups add-nodes loop-less
-    loop-again enum-known-found-2 misplaced-rule-requires returns-2 sub-longest-shared part-longest-shared-start
-    part-longest-shared-end longest-shared-requires add-rules sub-nodes sub-nodes-2 add-nodes-2 add-count loop-less-2
-    loop-again-2 enum-told returns-3 enum-told-2 returns-4 returns-5)
+    (tie.spec Inv-loop μ-loop loop-holds draw-requires (λ c. search needs) misplaced-group-requires returns add-groups add-nodes loop-less
+    loop-again (λ c. search needs) misplaced-rule-requires returns-2 sub-longest-shared part-longest-shared-start part-longest-shared-end
+    longest-shared-requires add-rules sub-nodes sub-nodes-2 add-nodes-2 add-count loop-less-2 loop-again-2 (λ c. search needs) returns-3
+    (λ c. search needs) returns-4 returns-5)

@@ -17,24 +17,6 @@ given : (word : List ℕ) {sheet table after : List ℕ} {number value : ℕ} �
     → Gives (outcome word) number value after
 given word is also gives = rw (is, also, delivered-runs) at gives
 
-sheet-requires : tie.Need-sheet-requires
-sheet-requires c κs = search needs
-
-table-requires : tie.Need-table-requires
-table-requires c κs = search needs
-
-slice-aggregate-run : tie.Need-slice-aggregate-run
-slice-aggregate-run c = search needs
-
-slice-aggregate-run-2 : tie.Need-slice-aggregate-run-2
-slice-aggregate-run-2 c = search needs
-
-run-requires : tie.Need-run-requires
-run-requires c κs = search needs
-
-same-length : tie.Need-same-length
-same-length c = search needs
-
 returns : tie.Need-returns
 returns c =
     let made = c .before .before .before .before .before .before .before in
@@ -44,4 +26,5 @@ returns c =
 pub run-spec : {M : Type 1} → statement M
 run-spec =
     tie.close
-    (tie.spec sheet-requires table-requires slice-aggregate-run slice-aggregate-run-2 run-requires same-length returns)
+    (tie.spec (λ c κs. search needs) (λ c κs. search needs) (λ c. search needs) (λ c. search needs) (λ c κs. search needs)
+    (λ c. search needs) returns)

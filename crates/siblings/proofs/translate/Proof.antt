@@ -12,15 +12,6 @@ use Rattle.siblings.specs.TranslationLaws.{translation-empty}
 use Rattle.siblings.proofs.translate.Statement.{statement}
 use Rattle.siblings.proofs.translate.Tie as tie
 
-check-requires : tie.Need-check-requires
-check-requires c κs = search needs
-
-enum-known-found : tie.Need-enum-known-found
-enum-known-found c = search needs
-
-enum-known-found-2 : tie.Need-enum-known-found-2
-enum-known-found-2 c = search needs
-
 -- the sheet is accepted, with so many nodes and groups
 counted-of : (c : tie.After-known-told2)
     → (let given = c .before .found2 .given .0 in
@@ -35,9 +26,6 @@ mul-end c =
 
 returns : tie.Need-returns
 returns c = translation-short _ _ _ _ (counted-of (c .before)) (c .if1 .taken)
-
-slice-relend-prefix-lay : tie.Need-slice-relend-prefix-lay
-slice-relend-prefix-lay c = search needs
 
 slice-aggregate-lay : tie.Need-slice-aggregate-lay
 slice-aggregate-lay c =
@@ -57,9 +45,6 @@ lay-requires c κs =
 returns-2 : tie.Need-returns-2
 returns-2 c = translation-refused _ _ _ (sym (ap tells (c .before .found .given .1)) ∙ c .before .before .before .check .ensures)
 
-same-length : tie.Need-same-length
-same-length c = search needs
-
 returns-3 : tie.Need-returns-3
 returns-3 c =
     let known = c .before .before .before .before .before .before in
@@ -71,6 +56,5 @@ returns-4 c = translation-empty _ _ _ _ (counted-of (c .before .before)) (c .bef
 pub translate-spec : {M : Type 1} → statement M
 translate-spec =
     tie.close
-    (tie.spec
-    check-requires enum-known-found enum-known-found-2 mul-end returns slice-relend-prefix-lay slice-aggregate-lay lay-requires
-    returns-2 same-length returns-3 returns-4)
+    (tie.spec (λ c κs. search needs) (λ c. search needs) (λ c. search needs) mul-end returns (λ c. search needs) slice-aggregate-lay
+    lay-requires returns-2 (λ c. search needs) returns-3 returns-4)

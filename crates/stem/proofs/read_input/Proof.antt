@@ -38,12 +38,6 @@ part-read-once-end c = omega arith
 read-once-requires : tie.Need-read-once-requires Inv-loop μ-loop
 read-once-requires c κs = tt
 
-enum-known-piece : tie.Need-enum-known-piece Inv-loop μ-loop
-enum-known-piece c = search needs
-
-enum-told : tie.Need-enum-told Inv-loop μ-loop
-enum-told c = search needs
-
 same-length : tie.Need-same-length Inv-loop μ-loop
 same-length c =
     let loop = c .before .before .before .before .before .before .before .loop in
@@ -102,5 +96,5 @@ returns-3 c = omega arith
 pub read-input-spec : {M : Type 1} → statement M
 read-input-spec =
     tie.close
-    (tie.spec Inv-loop μ-loop loop-holds sub-read-once part-read-once-start part-read-once-end read-once-requires enum-known-piece
-    enum-told same-length returns same-length-2 returns-2 add-at loop-less loop-again same-length-3 returns-3)
+    (tie.spec Inv-loop μ-loop loop-holds sub-read-once part-read-once-start part-read-once-end read-once-requires (λ c. search needs)
+    (λ c. search needs) same-length returns same-length-2 returns-2 add-at loop-less loop-again same-length-3 returns-3)

@@ -11,21 +11,6 @@ use borrow.Author.Needs.{needs}
 use Rattle.tables.proofs.run.Statement.{statement}
 use Rattle.tables.proofs.run.Tie as tie
 
-slice-aggregate-translate : tie.Need-slice-aggregate-translate
-slice-aggregate-translate c = search needs
-
-translate-requires : tie.Need-translate-requires
-translate-requires c κs = search needs
-
-enum-known-found : tie.Need-enum-known-found
-enum-known-found c = search needs
-
-enum-told : tie.Need-enum-told
-enum-told c = search needs
-
-enum-known-found-2 : tie.Need-enum-known-found-2
-enum-known-found-2 c = search needs
-
 -- the sheet is accepted, and its table is small
 accepted-of : (c : tie.After-known-told2)
     → (let sheet = c .before .before .before .before .before .before .before .before .before .args .sheet .now in
@@ -62,9 +47,6 @@ slice-aggregate-same-numbers-2 c =
     let nodes = c .before .before .before .before .found2 .given .0 .0 in
     sym (length-take-le (4 * nodes) (c .before .before .before .before .before .before .before .translate .last .1 .0) (omega arith))
 
-same-numbers-requires : tie.Need-same-numbers-requires
-same-numbers-requires c κs = search needs
-
 returns-2 : tie.Need-returns-2
 returns-2 c =
     let translated = c .before .before .before .before .before .before .before .before .before .translate .ensures in
@@ -89,9 +71,6 @@ returns-4 c =
     absurd (never-short (a .sheet .now) _ (a .table .now) (a .word .now) _ refl (c .enum-told .given .1)
     (c .before .before .before .translate .ensures))
 
-same-length : tie.Need-same-length
-same-length c = search needs
-
 returns-5 : tie.Need-returns-5
 returns-5 c =
     let compared = c .before .before .before .before .before .before in
@@ -103,6 +82,6 @@ returns-5 c =
 pub run-spec : {M : Type 1} → statement M
 run-spec =
     tie.close
-    (tie.spec slice-aggregate-translate translate-requires enum-known-found enum-told enum-known-found-2 mul-size returns
-    slice-aggregate-same-numbers array-share-prefix-own slice-aggregate-same-numbers-2 same-numbers-requires returns-2
-    slice-aggregate-word-run word-run-requires returns-3 returns-4 same-length returns-5)
+    (tie.spec (λ c. search needs) (λ c κs. search needs) (λ c. search needs) (λ c. search needs) (λ c. search needs) mul-size returns
+    slice-aggregate-same-numbers array-share-prefix-own slice-aggregate-same-numbers-2 (λ c κs. search needs) returns-2
+    slice-aggregate-word-run word-run-requires returns-3 returns-4 (λ c. search needs) returns-5)

@@ -20,38 +20,11 @@ returns c = let over = c .if1 .taken in no-longer _ _ _ (λ first second equal. 
 returns-2 : tie.Need-returns-2
 returns-2 c = let over = c .if2 .taken in no-longer _ _ _ (λ first second equal. omega arith)
 
-sub-if3 : tie.Need-sub-if3
-sub-if3 c = search needs
-
-sub-if3-2 : tie.Need-sub-if3-2
-sub-if3-2 c = search needs
-
-shared-slice-read-if3 : tie.Need-shared-slice-read-if3
-shared-slice-read-if3 c = search needs
-
-sub-if3-3 : tie.Need-sub-if3-3
-sub-if3-3 c = search needs
-
-sub-if3-4 : tie.Need-sub-if3-4
-sub-if3-4 c = search needs
-
-shared-slice-read-if3-2 : tie.Need-shared-slice-read-if3-2
-shared-slice-read-if3-2 c = search needs
-
 returns-3 : tie.Need-returns-3
 returns-3 c = no-longer _ _ _ (λ first second. c .if3 .taken)
-
-shared-tail-requires : tie.Need-shared-tail-requires
-shared-tail-requires c κs = search needs
-
-returns-4 : tie.Need-returns-4
-returns-4 c = search needs
-
-returns-5 : tie.Need-returns-5
-returns-5 c = search needs
 
 pub longer-spec : {M : Type 1} → statement M
 longer-spec =
     tie.close
-    (tie.spec returns returns-2 sub-if3 sub-if3-2 shared-slice-read-if3 sub-if3-3 sub-if3-4 shared-slice-read-if3-2 returns-3
-    shared-tail-requires returns-4 returns-5)
+    (tie.spec returns returns-2 (λ c. search needs) (λ c. search needs) (λ c. search needs) (λ c. search needs) (λ c. search needs)
+    (λ c. search needs) returns-3 (λ c κs. search needs) (λ c. search needs) (λ c. search needs))

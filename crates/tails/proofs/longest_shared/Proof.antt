@@ -60,9 +60,6 @@ loop-holds c = omega arith
 frame-at-requires : tie.Need-frame-at-requires Inv-loop μ-loop
 frame-at-requires c κs = tt
 
-enum-told : tie.Need-enum-told Inv-loop μ-loop
-enum-told c = search needs
-
 returns : tie.Need-returns Inv-loop μ-loop
 returns c =
     let turn = c .before .before .before .before .loop in
@@ -71,9 +68,6 @@ returns c =
     let none = none-cut (args .ending .now) (drop (turn .place) (args .sheet .now)) (turn .left) short in
     let all = turn .inv in
     omega arith
-
-enum-known-frame : tie.Need-enum-known-frame Inv-loop μ-loop
-enum-known-frame c = search needs
 
 -- what the frame of the rule says
 frame-of : (c : tie.After-known-told Inv-loop μ-loop)
@@ -132,6 +126,5 @@ returns-2 c =
 pub longest-shared-spec : {M : Type 1} → statement M
 longest-shared-spec =
     tie.close
-    (tie.spec
-    Inv-loop μ-loop loop-holds frame-at-requires enum-told returns enum-known-frame sub-ending-in part-ending-in-start
-    part-ending-in-end ending-in-requires longer-requires sub-left loop-less loop-again returns-2)
+    (tie.spec Inv-loop μ-loop loop-holds frame-at-requires (λ c. search needs) returns (λ c. search needs) sub-ending-in
+    part-ending-in-start part-ending-in-end ending-in-requires longer-requires sub-left loop-less loop-again returns-2)

@@ -13,12 +13,6 @@ use Rattle.texts.specs.WordCalls.{stemmed-word}
 use Rattle.texts.proofs.stem_word.Statement.{statement}
 use Rattle.texts.proofs.stem_word.Tie as tie
 
-make-small-requires : tie.Need-make-small-requires
-make-small-requires c κs = search needs
-
-stem-requires : tie.Need-stem-requires
-stem-requires c κs = search needs
-
 -- where the arms of the branch meet, the letters are small
 made : (c : tie.Joined1) → c .if1 .word ≡ map lowered (c .before .before .args .word .now)
 made c =
@@ -43,4 +37,5 @@ returns c =
     (c .before .before .stem .ensures .place-is ∙ ap (λ l. outcome l .place) (made joined))
 
 pub stem-word-spec : {M : Type 1} → statement M
-stem-word-spec = tie.close (tie.spec make-small-requires stem-requires same-length returns)
+stem-word-spec = tie.close
+    (tie.spec (λ c κs. search needs) (λ c κs. search needs) same-length returns)

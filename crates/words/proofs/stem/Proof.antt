@@ -16,32 +16,11 @@ says c =
     let read = c .before .before .before .read in
     c .judge-by .ensures ∙ rw (read .kept .0, read .ensures .0) (judged-by _)
 
-read-requires : tie.Need-read-requires
-read-requires c κs = search needs
-
-judge-by-requires : tie.Need-judge-by-requires
-judge-by-requires c κs = search needs
-
-enum-known-judged : tie.Need-enum-known-judged
-enum-known-judged c = search needs
-
-enum-told : tie.Need-enum-told
-enum-told c = search needs
-
-fill-requires : tie.Need-fill-requires
-fill-requires c κs = search needs
-
-same-length : tie.Need-same-length
-same-length c = search needs
-
 returns : tie.Need-returns
 returns c =
     let read = c .before .before .before .before .before .before .read in
     let refused = ap judgementOf (sym (c .before .judged .given .1)) ∙ says (c .before .before .before) in
     rw (read .ensures .1 .1 (λ is. apart (cc))) (gives-refused stem _ refused)
-
-same-length-2 : tie.Need-same-length-2
-same-length-2 c = search needs
 
 returns-2 : tie.Need-returns-2
 returns-2 c =
@@ -56,4 +35,5 @@ returns-2 c =
 pub stem-spec : {M : Type 1} → statement M
 stem-spec =
     tie.close
-    (tie.spec read-requires judge-by-requires enum-known-judged enum-told fill-requires same-length returns same-length-2 returns-2)
+    (tie.spec (λ c κs. search needs) (λ c κs. search needs) (λ c. search needs) (λ c. search needs) (λ c κs. search needs)
+    (λ c. search needs) returns (λ c. search needs) returns-2)

@@ -61,56 +61,8 @@ stays word states after new letters len part left stands inside is fits put long
       },
     )
 
-size-requires : tie.Need-size-requires
-size-requires c κs = search needs
-
-sub-part : tie.Need-sub-part
-sub-part c = search needs
-
-mul-start : tie.Need-mul-start
-mul-start c = search needs
-
-add-start : tie.Need-add-start
-add-start c = search needs
-
-added-requires : tie.Need-added-requires
-added-requires c κs = search needs
-
-add-end : tie.Need-add-end
-add-end c = search needs
-
-sub-put : tie.Need-sub-put
-sub-put c = search needs
-
-part-put-start : tie.Need-part-put-start
-part-put-start c = search needs
-
-part-put-end : tie.Need-part-put-end
-part-put-end c = search needs
-
-put-requires : tie.Need-put-requires
-put-requires c κs = search needs
-
-sub-left : tie.Need-sub-left
-sub-left c = search needs
-
-add-left : tie.Need-add-left
-add-left c = search needs
-
-slice-reshare-prefix-renew : tie.Need-slice-reshare-prefix-renew
-slice-reshare-prefix-renew c = search needs
-
 slice-aggregate-renew : tie.Need-slice-aggregate-renew
 slice-aggregate-renew c = sym (length-take-le _ (c .before .before .before .put .last .0) (omega arith))
-
-renew-requires : tie.Need-renew-requires
-renew-requires c κs = search needs
-
-same-length : tie.Need-same-length
-same-length c = search needs
-
-same-length-2 : tie.Need-same-length-2
-same-length-2 c = search needs
 
 returns : tie.Need-returns
 returns c =
@@ -135,6 +87,6 @@ returns c =
 pub obey-spec : {M : Type 1} → statement M
 obey-spec =
     tie.close
-    (tie.spec size-requires sub-part mul-start add-start added-requires add-end sub-put part-put-start part-put-end
-    put-requires sub-left add-left slice-reshare-prefix-renew slice-aggregate-renew renew-requires same-length same-length-2
-    returns)
+    (tie.spec (λ c κs. search needs) (λ c. search needs) (λ c. search needs) (λ c. search needs) (λ c κs. search needs)
+    (λ c. search needs) (λ c. search needs) (λ c. search needs) (λ c. search needs) (λ c κs. search needs) (λ c. search needs)
+    (λ c. search needs) (λ c. search needs) slice-aggregate-renew (λ c κs. search needs) (λ c. search needs) (λ c. search needs) returns)

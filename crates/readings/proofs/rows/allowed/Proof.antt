@@ -7,23 +7,8 @@ use Rattle.readings.proofs.Endings.{applies-noted}
 use Rattle.readings.proofs.rows.allowed.Statement.{statement}
 use Rattle.readings.proofs.rows.allowed.Tie as tie
 
-size-requires : tie.Need-size-requires
-size-requires c κs = search needs
-
-sub-part : tie.Need-sub-part
-sub-part c = search needs
-
-mul-holds-by : tie.Need-mul-holds-by
-mul-holds-by c = search needs
-
-shared-slice-read-holds-by : tie.Need-shared-slice-read-holds-by
-shared-slice-read-holds-by c = search needs
-
 slice-aggregate-holds-by : tie.Need-slice-aggregate-holds-by
 slice-aggregate-holds-by c = sym (length-take-le _ (c .before .before .before .before .before .before .args .word .now) (omega arith))
-
-holds-by-requires : tie.Need-holds-by-requires
-holds-by-requires c κs = search needs
 
 returns : tie.Need-returns
 returns c =
@@ -35,4 +20,5 @@ returns c =
 pub allowed-spec : {M : Type 1} → statement M
 allowed-spec =
     tie.close
-    (tie.spec size-requires sub-part mul-holds-by shared-slice-read-holds-by slice-aggregate-holds-by holds-by-requires returns)
+    (tie.spec (λ c κs. search needs) (λ c. search needs) (λ c. search needs) (λ c. search needs) slice-aggregate-holds-by
+    (λ c κs. search needs) returns)

@@ -15,9 +15,6 @@ use Rattle.readings.proofs.Endings.{size-fits}
 use Rattle.readings.proofs.rows.cut_by.Statement.{statement}
 use Rattle.readings.proofs.rows.cut_by.Tie as tie
 
-fitting-requires : tie.Need-fitting-requires
-fitting-requires c κs = search needs
-
 returns : tie.Need-returns
 returns c =
     let a = c .before .before .before .before .before .args in
@@ -71,4 +68,5 @@ returns-3 c = λ group narrowed. kept-whole group _ (rw (c .if2 .left) at (obeys
 
 pub cut-by-spec : {M : Type 1} → statement M
 cut-by-spec =
-    tie.close (tie.spec fitting-requires returns allowed-requires cut-requires returns-2 returns-3)
+    tie.close
+    (tie.spec (λ c κs. search needs) returns allowed-requires cut-requires returns-2 returns-3)

@@ -5,21 +5,6 @@ use Rattle.readings.proofs.Endings.{applies-reached}
 use Rattle.readings.proofs.rows.reached.Statement.{statement}
 use Rattle.readings.proofs.rows.reached.Tie as tie
 
-mul-reaches : tie.Need-mul-reaches
-mul-reaches c = search needs
-
-shared-slice-read-reaches : tie.Need-shared-slice-read-reaches
-shared-slice-read-reaches c = search needs
-
-size-requires : tie.Need-size-requires
-size-requires c κs = search needs
-
-sub-reaches : tie.Need-sub-reaches
-sub-reaches c = search needs
-
-reaches-requires : tie.Need-reaches-requires
-reaches-requires c κs = search needs
-
 returns : tie.Need-returns
 returns c =
     let s = c .before .before .before .before .before .before in
@@ -30,4 +15,4 @@ returns c =
 pub reached-spec : {M : Type 1} → statement M
 reached-spec =
     tie.close
-    (tie.spec mul-reaches shared-slice-read-reaches size-requires sub-reaches reaches-requires returns)
+    (tie.spec (λ c. search needs) (λ c. search needs) (λ c κs. search needs) (λ c. search needs) (λ c κs. search needs) returns)

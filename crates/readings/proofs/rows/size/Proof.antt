@@ -4,21 +4,10 @@ use Rattle.rules.specs.Rows.{sizeAt}
 use Rattle.readings.proofs.rows.size.Statement.{statement}
 use Rattle.readings.proofs.rows.size.Tie as tie
 
-mul-wide : tie.Need-mul-wide
-mul-wide c = search needs
-
-add-wide : tie.Need-add-wide
-add-wide c = search needs
-
-shared-slice-read-wide : tie.Need-shared-slice-read-wide
-shared-slice-read-wide c = search needs
-
-wide-requires : tie.Need-wide-requires
-wide-requires c κs = search needs
-
 returns : tie.Need-returns
 unfolding sizeAt
 returns c = c .wide .ensures .0
 
 pub size-spec : {M : Type 1} → statement M
-size-spec = tie.close (tie.spec mul-wide add-wide shared-slice-read-wide wide-requires returns)
+size-spec = tie.close
+    (tie.spec (λ c. search needs) (λ c. search needs) (λ c. search needs) (λ c κs. search needs) returns)

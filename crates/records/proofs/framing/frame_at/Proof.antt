@@ -53,24 +53,6 @@ returns c = let known = c .if1 .taken in no-head _ _ (omega arith)
 returns-2 : tie.Need-returns-2
 returns-2 c = let known = c .if2 .taken in let also = c .before .if1 .left in no-head _ _ (omega arith)
 
-shared-slice-read-pair : tie.Need-shared-slice-read-pair
-shared-slice-read-pair c = search needs
-
-add-pair : tie.Need-add-pair
-add-pair c = search needs
-
-shared-slice-read-pair-2 : tie.Need-shared-slice-read-pair-2
-shared-slice-read-pair-2 c = search needs
-
-pair-requires : tie.Need-pair-requires
-pair-requires c κs = search needs
-
-add-body : tie.Need-add-body
-add-body c = search needs
-
-sub-if3 : tie.Need-sub-if3
-sub-if3 c = search needs
-
 -- the head is there, once the body's length is read
 long : (c : tie.After-pair)
     → (let args = c .before .before .before .before .before .before .args in args .at + 4 ≤ length (args .bytes .now))
@@ -82,24 +64,6 @@ long c =
 returns-3 : tie.Need-returns-3
 returns-3 c = no-body _ _ _ (c .before .pair .ensures .0) (long (c .before)) (c .if3 .taken)
 
-add-pair-2 : tie.Need-add-pair-2
-add-pair-2 c = search needs
-
-shared-slice-read-pair-3 : tie.Need-shared-slice-read-pair-3
-shared-slice-read-pair-3 c = search needs
-
-add-pair-3 : tie.Need-add-pair-3
-add-pair-3 c = search needs
-
-shared-slice-read-pair-4 : tie.Need-shared-slice-read-pair-4
-shared-slice-read-pair-4 c = search needs
-
-pair-requires-2 : tie.Need-pair-requires-2
-pair-requires-2 c κs = search needs
-
-add-next : tie.Need-add-next
-add-next c = search needs
-
 returns-4 : tie.Need-returns-4
 returns-4 c =
     let first = c .before .before .before .before in
@@ -108,6 +72,6 @@ returns-4 c =
 pub frame-at-spec : {M : Type 1} → statement M
 frame-at-spec =
     tie.close
-    (tie.spec
-    returns returns-2 shared-slice-read-pair add-pair shared-slice-read-pair-2 pair-requires add-body sub-if3 returns-3
-    add-pair-2 shared-slice-read-pair-3 add-pair-3 shared-slice-read-pair-4 pair-requires-2 add-next returns-4)
+    (tie.spec returns returns-2 (λ c. search needs) (λ c. search needs) (λ c. search needs) (λ c κs. search needs) (λ c. search needs)
+    (λ c. search needs) returns-3 (λ c. search needs) (λ c. search needs) (λ c. search needs) (λ c. search needs) (λ c κs. search needs)
+    (λ c. search needs) returns-4)

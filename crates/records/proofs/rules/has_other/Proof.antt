@@ -5,12 +5,10 @@ use borrow.Author.Needs.{needs}
 use Rattle.records.proofs.rules.has_other.Statement.{statement}
 use Rattle.records.proofs.rules.has_other.Tie as tie
 
-first-other-requires : tie.Need-first-other-requires
-first-other-requires c κs = search needs
-
 returns : tie.Need-returns
 unfolding outside
 returns c = rw (c .first-other .ensures) (other-inside (c .before .before .args .bytes .now))
 
 pub has-other-spec : {M : Type 1} → statement M
-has-other-spec = tie.close (tie.spec first-other-requires returns)
+has-other-spec = tie.close
+    (tie.spec (λ c κs. search needs) returns)

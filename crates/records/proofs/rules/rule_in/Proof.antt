@@ -89,26 +89,8 @@ returns : tie.Need-returns
 unfolding faultyNumbers
 returns c = by-numbers _ _ (simp (lt-ltb _ _ (c .if1 .taken)))
 
-shared-slice-read-condition : tie.Need-shared-slice-read-condition
-shared-slice-read-condition c = search needs
-
-shared-slice-read-action : tie.Need-shared-slice-read-action
-shared-slice-read-action c = search needs
-
-shared-slice-read-opens : tie.Need-shared-slice-read-opens
-shared-slice-read-opens c = search needs
-
-shared-slice-read-wide : tie.Need-shared-slice-read-wide
-shared-slice-read-wide c = search needs
-
-wide-requires : tie.Need-wide-requires
-wide-requires c κs = search needs
-
 add-end : tie.Need-add-end
 add-end c = omega (arith, c .wide .ensures .0, c .before .shared-slice-known5 .given 3)
-
-above-requires : tie.Need-above-requires
-above-requires c κs = search needs
 
 -- the body, and what the test of the numbers says of it
 abbrev tested : tie.After-above → List ℕ
@@ -121,12 +103,6 @@ numbers c =
 
 returns-2 : tie.Need-returns-2
 returns-2 c = by-numbers _ _ (sym (numbers (c .before)) ∙ c .if2 .taken)
-
-sub-s1 : tie.Need-sub-s1
-sub-s1 c = search needs
-
-part-s1-start : tie.Need-part-s1-start
-part-s1-start c = search needs
 
 -- where the numbers are not faulty, S1 is within the body
 s1-fits : (c : tie.Else2) → 4 + c .before .before .wide .result ≤ length (tested (c .before))
@@ -144,20 +120,11 @@ sub-s2 c = s1-fits (c .before)
 part-s2-start : tie.Need-part-s2-start
 part-s2-start c = s1-fits (c .before)
 
-part-s2-end : tie.Need-part-s2-end
-part-s2-end c = search needs
-
-faulty-letters-requires : tie.Need-faulty-letters-requires
-faulty-letters-requires c κs = search needs
-
 letters-test : (c : tie.After-faulty-letters) → c .faulty-letters .result ≡ faultyLetters (tested (c .before .before .before .before))
 letters-test c = c .faulty-letters .ensures ∙ letters-are _ _ (c .before .before .before .before .before .wide .ensures .0)
 
 returns-3 : tie.Need-returns-3
 returns-3 c = by-letters _ _ (numbers-sound (c .before .before .before .before)) (sym (letters-test (c .before)) ∙ c .if3 .taken)
-
-faulty-action-requires : tie.Need-faulty-action-requires
-faulty-action-requires c κs = search needs
 
 letters-sound : (c : tie.Else3) → faultyLetters (tested (c .before .before .before .before .before)) ≡ false
 letters-sound c = sym (letters-test (c .before)) ∙ c .if3 .left
@@ -172,14 +139,8 @@ returns-4 c =
     by-action _ _ (numbers-sound (past .before .before .before .before)) (letters-sound past)
     (sym (action-test (c .before)) ∙ c .if4 .taken)
 
-add-start : tie.Need-add-start
-add-start c = search needs
-
 add-middle : tie.Need-add-middle
 add-middle c = let within = s1-fits (c .before .before .before .before .before .before) in omega arith
-
-add-next : tie.Need-add-next
-add-next c = search needs
 
 returns-5 : tie.Need-returns-5
 returns-5 c =
@@ -191,7 +152,6 @@ returns-5 c =
 pub rule-in-spec : {M : Type 1} → statement M
 rule-in-spec =
     tie.close
-    (tie.spec
-    returns shared-slice-read-condition shared-slice-read-action shared-slice-read-opens shared-slice-read-wide wide-requires
-    add-end above-requires returns-2 sub-s1 part-s1-start part-s1-end sub-s2 part-s2-start part-s2-end faulty-letters-requires
-    returns-3 faulty-action-requires returns-4 add-start add-middle add-next returns-5)
+    (tie.spec returns (λ c. search needs) (λ c. search needs) (λ c. search needs) (λ c. search needs) (λ c κs. search needs) add-end
+    (λ c κs. search needs) returns-2 (λ c. search needs) (λ c. search needs) part-s1-end sub-s2 part-s2-start (λ c. search needs)
+    (λ c κs. search needs) returns-3 (λ c κs. search needs) returns-4 (λ c. search needs) add-middle (λ c. search needs) returns-5)

@@ -38,9 +38,6 @@ add-pair c = omega arith
 shared-slice-read-pair-2 : tie.Need-shared-slice-read-pair-2 Inv-loop μ-loop
 shared-slice-read-pair-2 c = omega arith
 
-pair-requires : tie.Need-pair-requires Inv-loop μ-loop
-pair-requires c κs = search needs
-
 cast-space : tie.Need-cast-space Inv-loop μ-loop
 cast-space c = omega (arith, c .pair .ensures .1)
 
@@ -69,4 +66,4 @@ pub numbers-spec : {M : Type 1} → statement M
 numbers-spec =
     tie.close
     (tie.spec Inv-loop μ-loop loop-holds mul-at add-if1 same-length returns shared-slice-read-pair add-pair shared-slice-read-pair-2
-    pair-requires cast-space mul-space slice-write-space add-i loop-less loop-again same-length-2 returns-2)
+    (λ c κs. search needs) cast-space mul-space slice-write-space add-i loop-less loop-again same-length-2 returns-2)

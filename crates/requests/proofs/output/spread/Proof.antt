@@ -36,14 +36,8 @@ mul-n c = omega arith
 shared-slice-read-n : tie.Need-shared-slice-read-n Inv-loop μ-loop
 shared-slice-read-n c = omega arith
 
-cast-space : tie.Need-cast-space Inv-loop μ-loop
-cast-space c = search needs
-
 slice-write-space : tie.Need-slice-write-space Inv-loop μ-loop
 slice-write-space c = omega arith
-
-cast-space-2 : tie.Need-cast-space-2 Inv-loop μ-loop
-cast-space-2 c = search needs
 
 add-space : tie.Need-add-space Inv-loop μ-loop
 add-space c = omega arith
@@ -72,5 +66,5 @@ returns-2 c = counts _ _ (c .before .loop .inv .0)
 pub spread-spec : {M : Type 1} → statement M
 spread-spec =
     tie.close
-    (tie.spec Inv-loop μ-loop loop-holds mul-at add-if1 same-length returns mul-n shared-slice-read-n cast-space slice-write-space
-    cast-space-2 add-space slice-write-space-2 add-i loop-less loop-again mul-result same-length-2 returns-2)
+    (tie.spec Inv-loop μ-loop loop-holds mul-at add-if1 same-length returns mul-n shared-slice-read-n (λ c. search needs)
+    slice-write-space (λ c. search needs) add-space slice-write-space-2 add-i loop-less loop-again mul-result same-length-2 returns-2)

@@ -48,9 +48,6 @@ loop-holds c =
 pass-requires : tie.Need-pass-requires Inv-loop μ-loop
 pass-requires c κs = tt
 
-enum-known-found : tie.Need-enum-known-found Inv-loop μ-loop
-enum-known-found c = search needs
-
 -- a group was passed, and this stands after it
 group-of : (c : tie.After-known-told Inv-loop μ-loop)
     → (let given = c .before .found .given .0 in
@@ -70,9 +67,6 @@ loop-again c =
     let turn = c .before .before .before .before .before .loop in
     let next = group-of c in
     (next .inside, turn .inv .2, omega (arith, next .few), turn .inv .3, turn .inv .4, going-group (turn .inv .5) next)
-
-enum-known-found-2 : tie.Need-enum-known-found-2 Inv-loop μ-loop
-enum-known-found-2 c = search needs
 
 -- a rule was passed, and this stands after it
 rule-of : (c : tie.After-known-told2 Inv-loop μ-loop)
@@ -118,9 +112,6 @@ loop-again-2 c =
       going-rule (turn .inv .5) next _ _ (laid .0) (laid .1),
     )
 
-enum-told : tie.Need-enum-told Inv-loop μ-loop
-enum-told c = search needs
-
 -- the room stays as it was at the start
 same-room : (c : tie.At-loop Inv-loop μ-loop)
     → length (c .loop .table) ≡ length (c .before .before .before .before .before .before .before .args .table .now)
@@ -131,9 +122,6 @@ same-length c = same-room (c .before .before .before .before)
 
 returns : tie.Need-returns Inv-loop μ-loop
 returns c = going-end (c .before .before .before .before .loop .inv .5) (sym (c .before .before .pass .ensures) ∙ c .enum-told .given .1)
-
-enum-told-2 : tie.Need-enum-told-2 Inv-loop μ-loop
-enum-told-2 c = search needs
 
 same-length-2 : tie.Need-same-length-2 Inv-loop μ-loop
 same-length-2 c = same-room (c .before .before .before .before)
@@ -153,7 +141,6 @@ returns-3 c = let short = never-over (c .before .loop .inv .5 .holds) in absurd 
 pub lay-spec : {M : Type 1} → statement M
 lay-spec =
     tie.close
-    (tie.spec
-    Inv-loop μ-loop clear-requires loop-holds pass-requires enum-known-found add-roots loop-less loop-again enum-known-found-2
-    add-rules sub-insert part-insert-start part-insert-end insert-requires loop-less-2 loop-again-2 enum-told same-length returns
-    enum-told-2 same-length-2 returns-2 same-length-3 returns-3)
+    (tie.spec Inv-loop μ-loop clear-requires loop-holds pass-requires (λ c. search needs) add-roots loop-less loop-again
+    (λ c. search needs) add-rules sub-insert part-insert-start part-insert-end insert-requires loop-less-2 loop-again-2
+    (λ c. search needs) same-length returns (λ c. search needs) same-length-2 returns-2 same-length-3 returns-3)

@@ -26,9 +26,6 @@ loop-holds : tie.Need-loop-holds Inv-loop μ-loop
 unfolding endOf
 loop-holds c = (refl, omega arith)
 
-number-at-requires : tie.Need-number-at-requires Inv-loop μ-loop
-number-at-requires c κs = search needs
-
 returns : tie.Need-returns Inv-loop μ-loop
 returns c =
     let read = sym (c .before .number-at .ensures .0) ∙ c .if1 .taken in
@@ -60,5 +57,5 @@ returns-2 c = sym (end-over (c .before .loop .steps) _ _ (c .loop-test .left)) �
 pub chain-end-spec : {M : Type 1} → statement M
 chain-end-spec =
     tie.close
-    (tie.spec Inv-loop μ-loop mul-link add-link loop-holds number-at-requires returns mul-link-2 add-link-2 sub-steps loop-less loop-again
-    returns-2)
+    (tie.spec Inv-loop μ-loop mul-link add-link loop-holds (λ c κs. search needs) returns mul-link-2 add-link-2 sub-steps loop-less
+    loop-again returns-2)

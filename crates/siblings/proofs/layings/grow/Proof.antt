@@ -8,35 +8,14 @@ use borrow.Author.Needs.{needs}
 use Rattle.siblings.proofs.layings.grow.Statement.{statement}
 use Rattle.siblings.proofs.layings.grow.Tie as tie
 
-mul-end : tie.Need-mul-end
-mul-end c = search needs
-
-wide-requires : tie.Need-wide-requires
-wide-requires c κs = search needs
-
-slice-reshare-prefix-child : tie.Need-slice-reshare-prefix-child
-slice-reshare-prefix-child c = search needs
-
 slice-aggregate-child : tie.Need-slice-aggregate-child
 slice-aggregate-child c = sym (length-take-le (4 * c .before .before .before .args .count)
     (c .before .before .before .args .table .now) (omega arith))
-
-child-requires : tie.Need-child-requires
-child-requires c κs = search needs
-
-same-length : tie.Need-same-length
-same-length c = search needs
 
 returns : tie.Need-returns
 returns c =
     let found = c .before .child .ensures .0 in
     (grow-found _ _ _ _ _ _ (c .before .before .before .wide .ensures .0) found (c .if1 .taken), (omega arith, omega arith))
-
-sub-if2 : tie.Need-sub-if2
-sub-if2 c = search needs
-
-same-length-2 : tie.Need-same-length-2
-same-length-2 c = search needs
 
 returns-2 : tie.Need-returns-2
 returns-2 c =
@@ -45,25 +24,10 @@ returns-2 c =
       (omega arith, omega arith),
     )
 
-slice-reshare-prefix-chain-end : tie.Need-slice-reshare-prefix-chain-end
-slice-reshare-prefix-chain-end c = search needs
-
 slice-aggregate-chain-end : tie.Need-slice-aggregate-chain-end
 slice-aggregate-chain-end c = sym (length-take-le (4 *
     c .before .before .before .before .before .before .before .args .count)
     (c .before .before .before .before .before .before .before .args .table .now) (omega arith))
-
-chain-end-requires : tie.Need-chain-end-requires
-chain-end-requires c κs = search needs
-
-hang-requires : tie.Need-hang-requires
-hang-requires c κs = search needs
-
-add-t12 : tie.Need-add-t12
-add-t12 c = search needs
-
-same-length-3 : tie.Need-same-length-3
-same-length-3 c = search needs
 
 returns-3 : tie.Need-returns-3
 returns-3 c =
@@ -79,6 +43,6 @@ returns-3 c =
 pub grow-spec : {M : Type 1} → statement M
 grow-spec =
     tie.close
-    (tie.spec mul-end wide-requires slice-reshare-prefix-child slice-aggregate-child child-requires same-length returns sub-if2
-    same-length-2 returns-2 slice-reshare-prefix-chain-end slice-aggregate-chain-end chain-end-requires hang-requires add-t12
-    same-length-3 returns-3)
+    (tie.spec (λ c. search needs) (λ c κs. search needs) (λ c. search needs) slice-aggregate-child (λ c κs. search needs)
+    (λ c. search needs) returns (λ c. search needs) (λ c. search needs) returns-2 (λ c. search needs) slice-aggregate-chain-end
+    (λ c κs. search needs) (λ c κs. search needs) (λ c. search needs) (λ c. search needs) returns-3)

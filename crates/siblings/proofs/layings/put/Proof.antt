@@ -5,24 +5,10 @@ use borrow.Author.Needs.{needs}
 use Rattle.siblings.proofs.layings.put.Statement.{statement}
 use Rattle.siblings.proofs.layings.put.Tie as tie
 
-cast-table : tie.Need-cast-table
-cast-table c = search needs
-
-mul-table : tie.Need-mul-table
-mul-table c = search needs
-
-slice-write-table : tie.Need-slice-write-table
-slice-write-table c = search needs
-
-same-length : tie.Need-same-length
-same-length c = search needs
-
-returns : tie.Need-returns
-returns c = search needs
-
 returns-2 : tie.Need-returns-2
 returns-2 c = sym (set-out (c .before .args .table .now) (c .before .args .place) (c .before .args .number) (c .if1 .left))
 
 pub put-spec : {M : Type 1} → statement M
 put-spec =
-    tie.close (tie.spec cast-table mul-table slice-write-table same-length returns returns-2)
+    tie.close
+    (tie.spec (λ c. search needs) (λ c. search needs) (λ c. search needs) (λ c. search needs) (λ c. search needs) returns-2)

@@ -13,9 +13,6 @@ returns c =
     let a = c .before .before .before .before .args in
     sym (obeys-early (nodesIn (a .table .now)) (a .root) (a .found) (a .word .now) (a .number) (a .condition) _ (c .if1 .taken))
 
-held-at-requires : tie.Need-held-at-requires
-held-at-requires c κs = search needs
-
 returns-2 : tie.Need-returns-2
 returns-2 c =
     let a = c .before .before .before .before .before .before .args in
@@ -23,17 +20,11 @@ returns-2 c =
     (c .before .held-at .ensures)
     (c .if2 .taken))
 
-less-requires : tie.Need-less-requires
-less-requires c κs = search needs
-
 slice-aggregate-holds : tie.Need-slice-aggregate-holds
 slice-aggregate-holds c =
     let part = c .before .less .ensures in
     sym (length-take-le (c .before .less .result) (c .before .before .before .before .before .before .before .before .args .word .now)
     (omega arith))
-
-holds-requires : tie.Need-holds-requires
-holds-requires c κs = search needs
 
 returns-3 : tie.Need-returns-3
 returns-3 c =
@@ -44,4 +35,5 @@ returns-3 c =
     (c .before .before .less .ensures) (c .holds .ensures)
 
 pub obeys-spec : {M : Type 1} → statement M
-obeys-spec = tie.close (tie.spec returns held-at-requires returns-2 less-requires slice-aggregate-holds holds-requires returns-3)
+obeys-spec = tie.close
+    (tie.spec returns (λ c κs. search needs) returns-2 (λ c κs. search needs) slice-aggregate-holds (λ c κs. search needs) returns-3)

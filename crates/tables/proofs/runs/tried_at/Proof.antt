@@ -29,9 +29,6 @@ loop-holds c =
 pass-requires : tie.Need-pass-requires Inv-loop μ-loop
 pass-requires c κs = tt
 
-enum-told : tie.Need-enum-told Inv-loop μ-loop
-enum-told c = search needs
-
 nothing-requires : tie.Need-nothing-requires Inv-loop μ-loop
 nothing-requires c κs = tt
 
@@ -40,9 +37,6 @@ returns c =
     rw (trying-group (c .before .before .before .before .before .loop .inv .2)
     (sym (c .before .before .before .pass .ensures) ∙ c .before .enum-told .given .1))
     (c .nothing .ensures)
-
-enum-known-record : tie.Need-enum-known-record Inv-loop μ-loop
-enum-known-record c = search needs
 
 -- a rule was passed, and this stands after it
 rule-of : (c : tie.After-known-told Inv-loop μ-loop)
@@ -84,9 +78,6 @@ loop-again c =
     let next = rule-of known in
     (next .facts .inside, omega (arith, next .few), trying-next (turn .inv .2) next (c .before .obeys .ensures) (c .if1 .left))
 
-enum-told-2 : tie.Need-enum-told-2 Inv-loop μ-loop
-enum-told-2 c = search needs
-
 nothing-requires-2 : tie.Need-nothing-requires-2 Inv-loop μ-loop
 nothing-requires-2 c κs = tt
 
@@ -95,9 +86,6 @@ returns-3 c =
     rw (trying-end (c .before .before .before .before .before .loop .inv .2)
     (sym (c .before .before .before .pass .ensures) ∙ c .before .enum-told2 .given .1))
     (c .nothing2 .ensures)
-
-enum-told-3 : tie.Need-enum-told-3 Inv-loop μ-loop
-enum-told-3 c = search needs
 
 nothing-requires-3 : tie.Need-nothing-requires-3 Inv-loop μ-loop
 nothing-requires-3 c κs = tt
@@ -117,7 +105,6 @@ returns-5 c = let short = never-over (c .before .before .loop .inv .2 .holds-her
 pub tried-at-spec : {M : Type 1} → statement M
 tried-at-spec =
     tie.close
-    (tie.spec
-    Inv-loop μ-loop loop-holds pass-requires enum-told nothing-requires returns enum-known-record add-number sub-obeys
-    part-obeys-start part-obeys-end obeys-requires returns-2 loop-less loop-again enum-told-2 nothing-requires-2 returns-3
-    enum-told-3 nothing-requires-3 returns-4 nothing-requires-4 returns-5)
+    (tie.spec Inv-loop μ-loop loop-holds pass-requires (λ c. search needs) nothing-requires returns (λ c. search needs) add-number
+    sub-obeys part-obeys-start part-obeys-end obeys-requires returns-2 loop-less loop-again (λ c. search needs) nothing-requires-2
+    returns-3 (λ c. search needs) nothing-requires-3 returns-4 nothing-requires-4 returns-5)

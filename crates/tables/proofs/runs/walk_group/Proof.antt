@@ -15,19 +15,10 @@ use borrow.Author.Needs.{needs}
 use Rattle.tables.proofs.runs.walk_group.Statement.{statement}
 use Rattle.tables.proofs.runs.walk_group.Tie as tie
 
-slice-reshare-prefix-deepest : tie.Need-slice-reshare-prefix-deepest
-slice-reshare-prefix-deepest c = search needs
-
 slice-aggregate-deepest : tie.Need-slice-aggregate-deepest
 slice-aggregate-deepest c =
     let start = c .before .before .before .before in
     sym (length-take-le (start .args .size) (start .args .word .now) (start .pre .1 .1 .1 .1))
-
-deepest-requires : tie.Need-deepest-requires
-deepest-requires c κs = search needs
-
-same-length : tie.Need-same-length
-same-length c = search needs
 
 -- the rules of the group
 abbrev own : tie.Start → List Rule
@@ -38,19 +29,10 @@ returns c =
     let start = c .before .before .before .before .before .before in
     step-none _ _ _ _ _ (own start) _ (start .pre .1 .1 .1 .1) (c .before .deepest .ensures) (c .if1 .taken)
 
-slice-reshare-prefix-tried-at : tie.Need-slice-reshare-prefix-tried-at
-slice-reshare-prefix-tried-at c = search needs
-
 slice-aggregate-tried-at : tie.Need-slice-aggregate-tried-at
 slice-aggregate-tried-at c =
     let start = c .before .before .before .before .before .before .before in
     sym (length-take-le (start .args .size) (start .args .word .now) (start .pre .1 .1 .1 .1))
-
-tried-at-requires : tie.Need-tried-at-requires
-tried-at-requires c κs = search needs
-
-same-length-2 : tie.Need-same-length-2
-same-length-2 c = search needs
 
 returns-2 : tie.Need-returns-2
 returns-2 c =
@@ -75,15 +57,6 @@ obeyed-of c =
 sub-less : tie.Need-sub-less
 sub-less c = obeyed-of c .ending-ahead
 
-less-requires : tie.Need-less-requires
-less-requires c κs = search needs
-
-less-requires-2 : tie.Need-less-requires-2
-less-requires-2 c κs = search needs
-
-same-length-3 : tie.Need-same-length-3
-same-length-3 c = search needs
-
 returns-3 : tie.Need-returns-3
 returns-3 c =
     rw (c .less2 .ensures, c .before .before .before .before .less .ensures)
@@ -91,12 +64,6 @@ returns-3 c =
 
 sub-added : tie.Need-sub-added
 sub-added c = obeyed-of (c .before .before .before .before) .replacement-ahead
-
-sub-if4 : tie.Need-sub-if4
-sub-if4 c = search needs
-
-same-length-4 : tie.Need-same-length-4
-same-length-4 c = search needs
 
 returns-4 : tie.Need-returns-4
 returns-4 c =
@@ -112,9 +79,6 @@ part-put-start c = obeyed-of (c .before .before .before .before .before .before)
 part-put-end : tie.Need-part-put-end
 part-put-end c = obeyed-of (c .before .before .before .before .before .before) .inside
 
-put-requires : tie.Need-put-requires
-put-requires c κs = search needs
-
 add-t24 : tie.Need-add-t24
 add-t24 c =
     let found = c .before .before .before .before .before .before .before .before .before .before in
@@ -126,9 +90,6 @@ add-t24 c =
       start .pre .1 .1 .1 .1,
       start .good .1 .1 .1 .1 .1 .1 .0 .0,
     )
-
-same-length-5 : tie.Need-same-length-5
-same-length-5 c = search needs
 
 returns-5 : tie.Need-returns-5
 returns-5 c =
@@ -142,8 +103,7 @@ returns-5 c =
 pub walk-group-spec : {M : Type 1} → statement M
 walk-group-spec =
     tie.close
-    (tie.spec
-    slice-reshare-prefix-deepest slice-aggregate-deepest deepest-requires same-length returns slice-reshare-prefix-tried-at
-    slice-aggregate-tried-at tried-at-requires same-length-2 returns-2 sub-less less-requires less-requires-2 same-length-3
-    returns-3 sub-added sub-if4 same-length-4 returns-4 sub-put part-put-start part-put-end put-requires add-t24 same-length-5
-    returns-5)
+    (tie.spec (λ c. search needs) slice-aggregate-deepest (λ c κs. search needs) (λ c. search needs) returns (λ c. search needs)
+    slice-aggregate-tried-at (λ c κs. search needs) (λ c. search needs) returns-2 sub-less (λ c κs. search needs) (λ c κs. search needs)
+    (λ c. search needs) returns-3 sub-added (λ c. search needs) (λ c. search needs) returns-4 sub-put part-put-start part-put-end
+    (λ c κs. search needs) add-t24 (λ c. search needs) returns-5)

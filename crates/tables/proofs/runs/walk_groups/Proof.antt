@@ -39,9 +39,6 @@ loop-holds c =
 pass-requires : tie.Need-pass-requires Inv-loop μ-loop
 pass-requires c κs = tt
 
-enum-known-found : tie.Need-enum-known-found Inv-loop μ-loop
-enum-known-found c = search needs
-
 -- a group was passed, and this stands after it
 group-of : (c : tie.After-known-told Inv-loop μ-loop)
     → (let given = c .before .found .given .0 in
@@ -102,9 +99,6 @@ loop-again-2 c =
     let skipped = walking-skip (turn .inv .5) next (c .if1 .left) in
     (next .inside, omega (arith, next .few), turn .inv .2, turn .inv .3, turn .inv .4, skipped)
 
-enum-known-found-2 : tie.Need-enum-known-found-2 Inv-loop μ-loop
-enum-known-found-2 c = search needs
-
 -- a rule was passed, and this stands after it
 rule-of : (c : tie.After-known-told2 Inv-loop μ-loop)
     → (let given = c .before .found2 .given .0 in
@@ -126,9 +120,6 @@ loop-again-3 c =
     let next = rule-of c in
     (next .facts .inside, turn .inv .1, omega (arith, next .few), turn .inv .3, turn .inv .4, walking-rule (turn .inv .5) next)
 
-enum-told : tie.Need-enum-told Inv-loop μ-loop
-enum-told c = search needs
-
 same-length-2 : tie.Need-same-length-2 Inv-loop μ-loop
 same-length-2 c = c .before .before .before .before .loop .inv .4
 
@@ -136,9 +127,6 @@ returns-2 : tie.Need-returns-2 Inv-loop μ-loop
 returns-2 c =
     let turn = c .before .before .before .before .loop in
     (walking-end (turn .inv .5) (sym (c .before .before .pass .ensures) ∙ c .enum-told .given .1), turn .inv .3)
-
-enum-told-2 : tie.Need-enum-told-2 Inv-loop μ-loop
-enum-told-2 c = search needs
 
 same-length-3 : tie.Need-same-length-3 Inv-loop μ-loop
 same-length-3 c = c .before .before .before .before .loop .inv .4
@@ -158,7 +146,6 @@ returns-4 c = let short = never-over (c .before .loop .inv .5 .holds) in absurd 
 pub walk-groups-spec : {M : Type 1} → statement M
 walk-groups-spec =
     tie.close
-    (tie.spec
-    Inv-loop μ-loop loop-holds pass-requires enum-known-found add-groups walk-group-requires same-length returns loop-less
-    loop-again loop-less-2 loop-again-2 enum-known-found-2 add-rules loop-less-3 loop-again-3 enum-told same-length-2 returns-2
-    enum-told-2 same-length-3 returns-3 same-length-4 returns-4)
+    (tie.spec Inv-loop μ-loop loop-holds pass-requires (λ c. search needs) add-groups walk-group-requires same-length returns loop-less
+    loop-again loop-less-2 loop-again-2 (λ c. search needs) add-rules loop-less-3 loop-again-3 (λ c. search needs) same-length-2 returns-2
+    (λ c. search needs) same-length-3 returns-3 same-length-4 returns-4)

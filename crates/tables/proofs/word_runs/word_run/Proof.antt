@@ -11,33 +11,6 @@ use Rattle.answers.specs.Answers.{judgementOf}
 use Rattle.tables.proofs.word_runs.word_run.Statement.{statement}
 use Rattle.tables.proofs.word_runs.word_run.Tie as tie
 
-judge-requires : tie.Need-judge-requires
-judge-requires c κs = search needs
-
-enum-known-judged : tie.Need-enum-known-judged
-enum-known-judged c = search needs
-
-enum-told : tie.Need-enum-told
-enum-told c = search needs
-
-slice-aggregate-put : tie.Need-slice-aggregate-put
-slice-aggregate-put c = search needs
-
-put-requires : tie.Need-put-requires
-put-requires c κs = search needs
-
-walk-groups-requires : tie.Need-walk-groups-requires
-walk-groups-requires c κs = search needs
-
-enum-known-walked : tie.Need-enum-known-walked
-enum-known-walked c = search needs
-
-fill-requires : tie.Need-fill-requires
-fill-requires c κs = search needs
-
-enum-told-2 : tie.Need-enum-told-2
-enum-told-2 c = search needs
-
 -- the word is taken
 word-taken : (c : tie.After-enum-told) → taken ≡ judged (c .before .before .before .before .before .before .before .args .word .now)
 word-taken c = ap judgementOf (sym (c .enum-told .given .1)) ∙ c .before .before .judge .ensures
@@ -50,19 +23,10 @@ array-share-prefix-saved c =
 slice-aggregate-put-2 : tie.Need-slice-aggregate-put-2
 slice-aggregate-put-2 c = sym (length-take-le _ _ (array-share-prefix-saved (c .before)))
 
-put-requires-2 : tie.Need-put-requires-2
-put-requires-2 c κs = search needs
-
-same-length : tie.Need-same-length
-same-length c = search needs
-
 returns : tie.Need-returns
 returns c =
     let judge = c .before .before .before .judge in
     gives-refused _ _ (ap judgementOf (sym (c .before .judged .given .1)) ∙ judge .ensures)
-
-same-length-2 : tie.Need-same-length-2
-same-length-2 c = search needs
 
 returns-2 : tie.Need-returns-2
 returns-2 c =
@@ -71,9 +35,6 @@ returns-2 c =
     let is-taken = word-taken (walk .before .before .before .before .before .before) in
     let left = rw (known .walked .given .1) at (walk .walk-groups .ensures) in
     gives-done _ _ is-taken _ _ _ (sym (left .0)) (left .1) (walk .walk-groups .kept .1 .1 .0) (c .before .before .fill .ensures)
-
-same-length-3 : tie.Need-same-length-3
-same-length-3 c = search needs
 
 returns-3 : tie.Need-returns-3
 returns-3 c =
@@ -89,6 +50,6 @@ returns-3 c =
 pub word-run-spec : {M : Type 1} → statement M
 word-run-spec =
     tie.close
-    (tie.spec judge-requires enum-known-judged enum-told slice-aggregate-put put-requires walk-groups-requires enum-known-walked
-    fill-requires enum-told-2 array-share-prefix-saved slice-aggregate-put-2 put-requires-2 same-length returns same-length-2
-    returns-2 same-length-3 returns-3)
+    (tie.spec (λ c κs. search needs) (λ c. search needs) (λ c. search needs) (λ c. search needs) (λ c κs. search needs)
+    (λ c κs. search needs) (λ c. search needs) (λ c κs. search needs) (λ c. search needs) array-share-prefix-saved slice-aggregate-put-2
+    (λ c κs. search needs) (λ c. search needs) returns (λ c. search needs) returns-2 (λ c. search needs) returns-3)
