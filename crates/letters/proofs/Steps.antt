@@ -3,24 +3,18 @@ use Prim.Native.Nat.{ℕ, _+_, _%_, _^_, _<_, _≤_}
 use native.Mathlib.Numerals.{add-one}
 use native.Mathlib.Omega.{arith}
 use mathlib.Core.Path.{_≡_, ap, sym, subst, _∙_}
-use mathlib.Core.Bool.{Bool, true, false}
+use mathlib.Core.Bool.{Bool}
 use lib.Dec.{eqb}
 use lib.ListN.{length, take, drop, getD, take-append-drop}
 use lib.Seq.{take-suc, take-all}
 use mathlib.Core.List.{List, [], _∷_, _++_}
 use Rattle.paper.specs.Letters.{vowelAfter}
-use Rattle.paper.specs.States.{state as stateOf, changed, even, stateAt, stateAt-earlier, state-grows}
-use Rattle.paper.specs.Noted.{classBefore, nextState, next-is, ends-after}
+use Rattle.paper.specs.States.{state as stateOf, even, stateAt, stateAt-earlier, state-grows}
+use Rattle.paper.specs.Noted.{classBefore, nextState, next-is, ends-after, one-most}
 use Rattle.letters.specs.Scan.{classTable, Scanned}
 use Rattle.letters.specs.declared.Passed.{Passed}
 
 -- a letter adds one at most
-one-most : (a b : Bool) → changed a b ≤ 1
-one-most true true = omega arith
-one-most true false = omega arith
-one-most false true = omega arith
-one-most false false = omega arith
-
 pub next-most : (after : Bool) (before letter : ℕ) → nextState after before letter ≤ before + 1
 unfolding nextState
 next-most after before letter = omega (arith, one-most (eqb (before % 2) 1) (vowelAfter (classBefore after) letter))

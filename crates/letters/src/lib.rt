@@ -83,7 +83,7 @@ struct Passed {
     consonant: bool,
 }
 
-// Both rows are read, so that no letter waits for the class of the one before it.
+// Both rows are read, so that the look at the table does not wait for the class of the letter before.
 fn vowel_after(table: &[[bool; 26]; 2], consonant: bool, letter: u8) -> bool
     requires { ⌜ now table ≡ classTable ⌝ }
     ensures { λ r. ⌜ r ≡ vowelAfter (classBefore consonant) letter ⌝ }
