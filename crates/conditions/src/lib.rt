@@ -1,8 +1,9 @@
 // The nine conditions of document 01, by the states of a part and of one and two letters fewer: a look at two or three numbers and the
 // last letters. Every function takes any bytes and numbers; a number above 8 is no condition and does not hold.
 ghost use mathlib.Core.Path.{_≡_};
+ghost use lib.Dec.{leb};
 ghost use lib.ListN.{getD};
-ghost use Prim.Native.Nat.{_-_};
+ghost use Prim.Native.Nat.{ℕ, _-_, _<_};
 ghost use Rattle.paper.specs.Letters.{letterAt};
 ghost use Rattle.paper.specs.States.{doubleBy, shortBy, holdsBy, reachesBy};
 ghost use Rattle.paper.specs.Noted.{holdsNoted};
@@ -64,21 +65,28 @@ fn state_at(states: &[u8], at: usize) -> usize
     }
 }
 
-// Whether one of the first four conditions holds of a part of so many letters, by the states of its word.
-pub fn reaches(condition: u8, states: &[u8], part: usize) -> bool
-    ensures { λ r. ⌜ r ≡ reachesBy condition (getD (now (states .entry)) part 0) ⌝ }
+// The least state of a part of which the condition holds, for those that the state alone decides; for others more than a state can be.
+fn least(condition: u8) -> usize
+    ensures { λ r. ⌜ ((state : ℕ) → state < 256 → leb r state ≡ reachesBy condition state) ⌝ }
 {
-    let state = state_at(states, part);
     match condition {
-        0 => true,
-        1 => 1 < state,
-        2 => 3 < state,
-        3 => 0 < state,
-        _ => false,
+        0 => 0,
+        1 => 2,
+        2 => 4,
+        3 => 1,
+        _ => 256,
     }
 }
 
-fn less(n: usize, k: usize) -> usize
+// Whether one of the first four conditions holds of a part of so many letters, by the states of its word.
+fn reaches(condition: u8, states: &[u8], part: usize) -> bool
+    ensures { λ r. ⌜ r ≡ reachesBy condition (getD (now (states .entry)) part 0) ⌝ }
+{
+    least(condition) <= state_at(states, part)
+}
+
+// So many fewer, and 0 where there are not as many.
+pub fn less(n: usize, k: usize) -> usize
     ensures { λ r. ⌜ r ≡ n - k ⌝ }
 {
     if n < k {

@@ -1,9 +1,9 @@
 -- The class table holds the class of every letter, and no byte outside a to z is a vowel.
-use Prim.Native.Nat.{ℕ, zero, suc, _+_, _-_, _≤_, _<_}
+use Prim.Native.Nat.{ℕ, zero, suc, _+_, _-_, _%_, _≤_, _<_}
 use native.Mathlib.Nat.{le-of-suc-le-suc, not-suc-le-zero}
 use native.Mathlib.Omega.{arith}
 use Prim.Native.Char.{code}
-use mathlib.Core.Path.{_≡_, refl, ap, _∙_}
+use mathlib.Core.Path.{_≡_, refl, sym, ap, _∙_}
 use mathlib.Core.Bool.{Bool, true, false, _&&_, _||_}
 use mathlib.Core.List.{List, [], _∷_, map}
 use lib.Dec.{eqb}
@@ -11,7 +11,7 @@ use lib.ListN.{getD, List·getD-map}
 use borrow.Author.Tests.{ne-eqb}
 use Rattle.paper.specs.Letters.{letters, among, Class, none, consonant, isConsonant, vowelAfter}
 use Rattle.paper.specs.Noted.{classBefore}
-use Rattle.letters.specs.Scan.{alphabet, classTable}
+use Rattle.letters.specs.Scan.{classTable}
 
 -- none of a, e, i, o, u, y
 no-vowel :
@@ -37,6 +37,9 @@ above-z preceding l h =
     no-vowel preceding l (λ e. omega arith) (λ e. omega arith) (λ e. omega arith) (λ e. omega arith) (λ e. omega arith)
     (λ e. omega arith)
 
+abbrev pub odd : ℕ → Bool
+odd n = eqb (n % 2) 1
+
 -- n numbers from a on
 counted : ℕ → ℕ → List ℕ
 counted a zero = []
@@ -48,20 +51,24 @@ counted-at a zero k h = absurd (not-suc-le-zero h)
 counted-at a (suc n) zero h = omega arith
 counted-at a (suc n) (suc k) h = let e = counted-at (suc a) n k (le-of-suc-le-suc h) in omega arith
 
-alphabet-at : (k : ℕ) → k < 26 → getD alphabet k 0 ≡ 97 + k
-unfolding alphabet letters counted
-alphabet-at k h = counted-at 97 26 k h
+abbrev alphabet : List ℕ
+alphabet = counted 97 26
 
+-- a row whose odd numbers stand at the vowels of the alphabet
 row-at :
-    (preceding : Class) (l : ℕ)
+    (preceding : Class) (row : List ℕ) (l : ℕ)
+    → map odd row ≡ map (vowelAfter preceding) alphabet
     → 97 ≤ l
     → l ≤ 122
-    → getD (map (vowelAfter preceding) alphabet) (l - 97) false ≡ vowelAfter preceding l
+    → odd (getD row (l - 97) 0) ≡ vowelAfter preceding l
 unfolding vowelAfter among letters
-row-at preceding l low high =
-    let e : getD alphabet (l - 97) 0 ≡ 97 + (l - 97) = alphabet-at (l - 97) (omega arith) in
+row-at preceding row l same low high =
+    let e : getD alphabet (l - 97) 0 ≡ 97 + (l - 97) = counted-at 97 26 (l - 97) (omega arith) in
     let f : getD alphabet (l - 97) 0 ≡ l = omega arith in
-    List·getD-map (vowelAfter preceding) alphabet (l - 97) 0 ∙ ap (vowelAfter preceding) f
+    sym (List·getD-map odd row (l - 97) 0)
+    ∙ ap (λ (tests : List Bool). getD tests (l - 97) false) same
+    ∙ List·getD-map (vowelAfter preceding) alphabet (l - 97) 0
+    ∙ ap (vowelAfter preceding) f
 
 -- of the second row only the y counts, and only behind a consonant
 both-rows : (some y b : Bool)
@@ -71,11 +78,13 @@ both-rows false true true = refl
 both-rows false true false = refl
 both-rows false false b = refl
 
+-- what a row holds is one computed equation
 pub in-table :
     (b : Bool) (l : ℕ)
     → 97 ≤ l
     → l ≤ 122
-    → getD (getD classTable 0 []) (l - 97) false || (getD (getD classTable 1 []) (l - 97) false && b) ≡ vowelAfter (classBefore b) l
-unfolding classTable vowelAfter
+    → odd (getD (getD classTable 0 []) (l - 97) 0) || (odd (getD (getD classTable 1 []) (l - 97) 0) && b) ≡ vowelAfter (classBefore b) l
+unfolding classTable vowelAfter among letters counted
 in-table b l low high =
-    rw (row-at none l low high, row-at consonant l low high) (both-rows (among l (letters "aeiou")) (eqb l (code "y")) b)
+    rw (row-at none (getD classTable 0 []) l refl low high, row-at consonant (getD classTable 1 []) l refl low high)
+    (both-rows (among l (letters "aeiou")) (eqb l (code "y")) b)

@@ -13,64 +13,11 @@ ghost use Rattle.paper.specs.Words.{firstOther};
 ghost use Rattle.letters.specs.Scan.{classTable, Scanned};
 ghost use Rattle.letters.specs.Notes.{noted, renewed};
 
-// Whether a letter is a vowel: first by whether the letter before it was a consonant, then by the letter, a to z.
-const CLASS: [[bool; 26]; 2] = [
-    [
-        true,
-        false,
-        false,
-        false,
-        true,
-        false,
-        false,
-        false,
-        true,
-        false,
-        false,
-        false,
-        false,
-        false,
-        true,
-        false,
-        false,
-        false,
-        false,
-        false,
-        true,
-        false,
-        false,
-        false,
-        false,
-        false,
-    ],
-    [
-        true,
-        false,
-        false,
-        false,
-        true,
-        false,
-        false,
-        false,
-        true,
-        false,
-        false,
-        false,
-        false,
-        false,
-        true,
-        false,
-        false,
-        false,
-        false,
-        false,
-        true,
-        false,
-        false,
-        false,
-        true,
-        false,
-    ],
+// Whether a letter is a vowel, odd for yes: first by whether the letter before it was a consonant, then by the letter, a to z. The even
+// numbers take turns, since of equal numbers side by side each would be written by itself when a word is read.
+const CLASS: [[u8; 26]; 2] = [
+    *b"10201020102020102020102020",
+    *b"10201020102020102020102010",
 ];
 
 // What a forward scan has found of the letters passed.
@@ -84,7 +31,7 @@ struct Passed {
 }
 
 // Both rows are read, so that the look at the table does not wait for the class of the letter before.
-fn vowel_after(table: &[[bool; 26]; 2], consonant: bool, letter: u8) -> bool
+fn vowel_after(table: &[[u8; 26]; 2], consonant: bool, letter: u8) -> bool
     requires { ⌜ now table ≡ classTable ⌝ }
     ensures { λ r. ⌜ r ≡ vowelAfter (classBefore consonant) letter ⌝ }
 {
@@ -95,11 +42,11 @@ fn vowel_after(table: &[[bool; 26]; 2], consonant: bool, letter: u8) -> bool
         return false;
     }
     let column = (letter - 97) as usize;
-    table[0][column] | (table[1][column] & consonant)
+    (table[0][column] % 2 == 1) | ((table[1][column] % 2 == 1) & consonant)
 }
 
 // The state after one letter more: one more where the class is another.
-fn next_state(table: &[[bool; 26]; 2], consonant: bool, state: usize, letter: u8) -> usize
+fn next_state(table: &[[u8; 26]; 2], consonant: bool, state: usize, letter: u8) -> usize
     requires { ⌜ (now table ≡ classTable) × (state < 2 ^ 63) ⌝ }
     ensures { λ r. ⌜ r ≡ nextState consonant state letter ⌝ }
 {
@@ -110,7 +57,7 @@ fn next_state(table: &[[bool; 26]; 2], consonant: bool, state: usize, letter: u8
 }
 
 // One letter more.
-fn step(table: &[[bool; 26]; 2], s: Passed, letter: u8) -> Passed
+fn step(table: &[[u8; 26]; 2], s: Passed, letter: u8) -> Passed
     requires { ⌜ (now table ≡ classTable) × (s .state < 2 ^ 63) ⌝ }
     ensures { λ r. ⌜ r .state ≤ s .state + 1 ⌝ }
     ensures { λ r. ⌜ ((part : List ℕ) → Scanned part s → Scanned (part ++ letter ∷ []) r) ⌝ }
@@ -206,6 +153,8 @@ pub fn note(word: &[u8], states: &mut [u8]) -> usize
     }
     let table = &CLASS;
     let mut state: usize = 0;
+    // The class of the letter before is kept by itself, so that no letter waits for the state's parity.
+    let mut vowel = false;
     let mut consonant = false;
     let mut i = 0;
     while i < word.len() {
@@ -216,8 +165,12 @@ pub fn note(word: &[u8], states: &mut [u8]) -> usize
         if 122 < letter {
             return i;
         }
-        state = next_state(table, consonant, state, letter);
-        consonant = state % 2 != 1;
+        let now = vowel_after(table, consonant, letter);
+        if now != vowel {
+            state += 1;
+        }
+        vowel = now;
+        consonant = !now;
         i += 1;
         states[i] = state as u8;
     }

@@ -1,7 +1,7 @@
 -- Demand 2 for words: every word of 1 to 64 small letters is done, its place afterwards holds its stem and then spaces, and
 -- the value returned is the stem's length. And what holds of every call, by any word rule that never lengthens a word: its
 -- numbers are small.
-use Prim.Native.Nat.{ℕ, _-_, _≤_}
+use Prim.Native.Nat.{ℕ, _≤_}
 use native.Mathlib.Omega.{arith}
 use mathlib.Core.Path.{_≡_, refl, sym, ap, _∙_}
 use mathlib.Core.Bool.{true}

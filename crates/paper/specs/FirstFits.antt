@@ -123,16 +123,7 @@ decided word (rule ∷ rules) (suc r) all known misses ends =
 pub none-yet : (at : ℕ → Rule) (word : List ℕ) → NoneFits at 0 0 word
 none-yet at word k low high = absurd (omega arith)
 
--- one rule more that does not end the word
-pub none-more : (at : ℕ → Rule) (n : ℕ) (word : List ℕ) → NoneFits at 0 n word → endsWith word (at n .ending) ≡ false
-    → NoneFits at 0 (suc n) word
-none-more at n word misses here k low high = go (decLt k n)
-  where
-    go : Dec (k < n) → endsWith word (at k .ending) ≡ false
-    go (yes below) = misses k low below
-    go (no last) = let same : k ≡ n = omega arith in rw same here
-
--- and where none does, no rule is obeyed
+-- where none ends the word, no rule is obeyed
 pub undecided : (word : List ℕ) (rules : List Rule) → NoneFits (ruleOf rules) 0 (length rules) word → obeyed word rules ≡ none
 unfolding obeyed chosen fitting which first
 undecided word [] misses = refl

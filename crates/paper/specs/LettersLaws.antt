@@ -7,15 +7,11 @@ use mathlib.Core.Path.{_≡_, refl}
 use mathlib.Core.List.{List, [], _∷_, _++_, reverse, reverse-append, reverse-cons}
 use lib.ListN.{length, getD, length-reverse, List·getD-append}
 use lib.Seq.{getD-append-seam}
-use Rattle.paper.specs.Letters.{classAfter, inward, classOf, letterAt, classAt}
+use Rattle.paper.specs.Letters.{inward, letterAt}
 
 pub inward-more : (part : List ℕ) (letter : ℕ) → inward (part ++ letter ∷ []) ≡ letter ∷ inward part
 unfolding inward
 inward-more part letter = reverse-append part (letter ∷ [])
-
-pub classAt-more : (part : List ℕ) (letter : ℕ) → classAt 0 (part ++ letter ∷ []) ≡ classAfter (classAt 0 part) letter
-unfolding classAt classOf
-classAt-more part letter = rw inward-more
 
 -- where there is no letter
 pub letterAt-none : (part : List ℕ) → length part ≡ 0 → letterAt 0 part ≡ 0

@@ -12,7 +12,8 @@ use Rattle.paper.specs.Shipped.{group-1a, group-1b, follow-up, group-1c, group-
 use Rattle.paper.specs.TurnLaws.{turn-skipped, turn-run, turn-fits}
 use Rattle.paper.specs.LengthLaws.{stem-done}
 use Rattle.paper.specs.Words.{readWord, stem}
-use Rattle.readings.specs.Steps.{leaves, leavesOpened}
+use Rattle.groups.specs.Reads.{leaves}
+use Rattle.readings.specs.Steps.{leavesOpened}
 
 abbrev turnOf : Gate → List Rule → Turn
 turnOf gate rules = readTurn (record { gate = gate; rules = rules })
@@ -39,19 +40,20 @@ module _ {place : ℕ} {left : List ℕ} where
       → length (leaves rules word) ≤ place
       → Gives place left (turnOf if-opened next ∷ turnOf always behind ∷ turns) (opensNext (obeyed word rules)) (leaves rules word)
       → (length (leavesOpened rules next word) ≤ place)
-      × Gives place left turns (opensNext (obeyed (leavesOpened rules next word) behind)) (leaves behind (leavesOpened rules next word))
+      × ((length (leaves behind (leavesOpened rules next word)) ≤ place)
+      × Gives place left turns (opensNext (obeyed (leavesOpened rules next word) behind)) (leaves behind (leavesOpened rules next word)))
   unfolding leavesOpened
   on-opened rules next behind word {turns} short gives =
       by-test (opensNext (obeyed word rules))
       (λ opens.
       let one = on next opens gives in
       let two = on behind {gate = always} refl (one .1) in
-      rw opens (one .0, two .1))
+      rw opens (one .0, two))
       (λ closed.
       let skipped = turn-skipped place {turns = turnOf always behind ∷ turns} {turn = turnOf if-opened next} refl _
       (leaves rules word) closed short in
       let gives-on : Gives place left (turnOf always behind ∷ turns) false (leaves rules word) = record { is = sym skipped ∙ gives .is } in
-      rw closed (short, on behind {gate = always} refl gives-on .1))
+      rw closed (short, on behind {gate = always} refl gives-on))
 
 abbrev nine : List Turn
 nine =
@@ -77,7 +79,9 @@ module _ (word : List ℕ) where
   abbrev after-2 : List ℕ
   after-2 = leaves group-2 (leaves group-1c after-1b)
 
-  pub shipped-reads : (length after-1b ≤ length word)
+  -- what the groups that write leave fits in the place, and what all leave is the stem
+  pub shipped-reads :
+      ((length after-1b ≤ length word) × ((length (leaves group-1c after-1b) ≤ length word) × (length after-2 ≤ length word)))
       × (stem word ≡ done (leaves group-5b (leaves group-5a (leaves group-4 (leaves group-3 after-2)))))
   unfolding stem readWord steps reading
   shipped-reads =
@@ -89,9 +93,9 @@ module _ (word : List ℕ) where
       let one = on group-1a {gate = always} refl start in
       let two = on group-1b {gate = always} refl (one .1) in
       let three = on-opened group-1b follow-up group-1c (leaves group-1a word) (two .0) (two .1) in
-      let four = on group-2 {gate = always} refl (three .1) in
+      let four = on group-2 {gate = always} refl (three .1 .1) in
       let five = on group-3 {gate = always} refl (four .1) in
       let six = on group-4 {gate = always} refl (five .1) in
       let seven = on group-5a {gate = always} refl (six .1) in
       let eight = on group-5b {gate = always} refl (seven .1) in
-      (three .0, gives ∙ sym (eight .1 .is))
+      ((three .0, (three .1 .0, four .0)), gives ∙ sym (eight .1 .is))

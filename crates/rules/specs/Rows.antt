@@ -1,16 +1,17 @@
 -- A group's rules as a table: a row of 16 numbers for each, and a rule read back from its row.
-use Prim.Native.Nat.{ℕ, _+_, _-_, _*_, _≤_, _<_}
+use Prim.Native.Nat.{ℕ, _+_, _-_, _*_, _%_, _≤_, min}
 use mathlib.Core.Bool.{cond}
 use mathlib.Core.List.{List, [], _∷_, _++_}
 use lib.Dec.{eqb}
-use lib.ListN.{length, take, drop, getD, replicate}
+use lib.ListN.{length, take, drop, getD}
+use Rattle.paper.specs.Letters.{letters}
 use Rattle.paper.specs.TestLaws.{one-if}
 use Rattle.paper.specs.Groups.{Action, replace, single-letter, written, numberOfAction, Rule}
 
 -- ## From the rules to the table
 
 abbrev filler : ℕ → List ℕ
-filler n = replicate n 45
+filler n = take n (letters ".-.-.-.")
 
 -- condition, action, opens, the ending's length, the replacement's; the ending at the end of seven places, the replacement in four
 unfoldable pub rowOf : Rule → List ℕ
@@ -30,12 +31,12 @@ rowsOf (rule ∷ rules) = rowOf rule ++ rowsOf rules
 
 -- ## From a table to its rules
 
--- how many letters the ending of a rule has, and how many its replacement
+-- how many letters the ending of a rule has, at most 7, and how many its replacement, at most 4
 unfoldable pub sizeAt : List ℕ → ℕ → ℕ
-sizeAt table k = getD table (16 * k + 3) 0
+sizeAt table k = getD table (16 * k + 3) 0 % 8
 
 unfoldable pub addedAt : List ℕ → ℕ → ℕ
-addedAt table k = getD table (16 * k + 4) 0
+addedAt table k = min (getD table (16 * k + 4) 0) 4
 
 unfoldable pub writtenAt : List ℕ → ℕ → List ℕ
 writtenAt table k = take (addedAt table k) (drop (16 * k + 12) table)
@@ -53,11 +54,6 @@ ruleAt table k =
       opens = eqb (getD table (16 * k + 2) 0) 1;
     }
 
--- a row stands in the table, and its ending and its replacement in their places
-pub record Row (table : List ℕ) (k : ℕ) : Type 0 where
-  pub within : 16 * k + 16 ≤ length table
-  pub size : sizeAt table k ≤ 7
-  pub added : addedAt table k ≤ 4
-
+-- so many rows stand in the table
 abbrev pub Rows : List ℕ → ℕ → Type 0
-Rows table n = (k : ℕ) → k < n → Row table k
+Rows table n = 16 * n ≤ length table

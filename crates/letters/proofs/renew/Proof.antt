@@ -6,9 +6,9 @@ use mathlib.Core.Bool.{_&&_, and-false}
 use borrow.Author.Tests.{le-ltb, lt-leb}
 use lib.Dec.{ltb}
 use lib.ListN.{length, getD}
-use Rattle.paper.specs.Letters.{letters, among, vowelAfter}
+use Rattle.paper.specs.Letters.{letters}
 use Rattle.paper.specs.States.{even}
-use Rattle.letters.specs.Scan.{alphabet, classTable}
+use Rattle.letters.specs.Scan.{classTable}
 use Rattle.letters.specs.Notes.{renewed}
 use Rattle.letters.proofs.Steps.{next-most}
 use Rattle.letters.proofs.Writes.{Writing, writing-none, writing-more, renewed-is}
@@ -36,14 +36,8 @@ returns-2 c =
     let a = c .before .before .before .before .args in
     rw (le-ltb (length (a .word .now)) (length (a .states .now)) (c .if2 .taken), and-false)
 
-slice-read-state : tie.Need-slice-read-state Inv-loop μ-loop
-slice-read-state c = omega arith
-
 cast-state : tie.Need-cast-state Inv-loop μ-loop
 cast-state c = omega (arith, c .slice-known2 .given (c .before .before .before .before .before .before .args .from))
-
-sub-if3 : tie.Need-sub-if3 Inv-loop μ-loop
-sub-if3 c = omega arith
 
 add-if3 : tie.Need-add-if3 Inv-loop μ-loop
 add-if3 c = omega (arith, c .slice-known2 .given (c .before .before .before .before .before .before .args .from))
@@ -56,19 +50,13 @@ returns-3 c =
 
 -- where the loop begins: the constant is the table of two rows, by computation
 constant-is-the-class-table : tie.Need-loop-holds Inv-loop μ-loop
-unfolding classTable alphabet letters vowelAfter among
+unfolding classTable letters
 constant-is-the-class-table c =
     let a = c .before .before .before .before .before .before .before .args in
     (refl, omega arith, omega arith, writing-none (a .word .now) (a .states .now) (a .from) _ _ (omega arith))
 
-shared-slice-read-next-state : tie.Need-shared-slice-read-next-state Inv-loop μ-loop
-shared-slice-read-next-state c = omega arith
-
 next-state-requires : tie.Need-next-state-requires Inv-loop μ-loop
 next-state-requires c κs = let at = c .before .before .loop in (at .inv .0, omega arith)
-
-add-i : tie.Need-add-i Inv-loop μ-loop
-add-i c = omega arith
 
 cast-states : tie.Need-cast-states Inv-loop μ-loop
 cast-states c =
@@ -78,12 +66,6 @@ cast-states c =
       next-most (at .consonant) (at .state)
           (getD (c .before .before .before .before .before .before .before .before .before .before .before .args .word .now) (at .i) 0),
     )
-
-slice-write-states : tie.Need-slice-write-states Inv-loop μ-loop
-slice-write-states c = omega arith
-
-loop-less : tie.Need-loop-less Inv-loop μ-loop
-loop-less c = omega arith
 
 loop-again : tie.Need-loop-again Inv-loop μ-loop
 loop-again c =
@@ -106,5 +88,6 @@ returns-4 c =
 pub renew-spec : {M : Type 1} → statement M
 renew-spec =
     tie.close
-    (tie.spec Inv-loop μ-loop returns returns-2 slice-read-state cast-state sub-if3 add-if3 returns-3 constant-is-the-class-table
-    shared-slice-read-next-state next-state-requires add-i cast-states slice-write-states loop-less loop-again same-length returns-4)
+    (tie.spec Inv-loop μ-loop returns returns-2 (λ c. omega arith) cast-state (λ c. omega arith) add-if3 returns-3
+    constant-is-the-class-table (λ c. omega arith) next-state-requires (λ c. omega arith) cast-states (λ c. omega arith)
+    (λ c. omega arith) loop-again same-length returns-4)

@@ -4,8 +4,8 @@ use borrow.Author.Needs.{needs}
 use native.Mathlib.Omega.{arith}
 use mathlib.Core.Path.{refl}
 use lib.ListN.{length}
-use Rattle.paper.specs.Letters.{letters, among, vowelAfter}
-use Rattle.letters.specs.Scan.{alphabet, classTable}
+use Rattle.paper.specs.Letters.{letters}
+use Rattle.letters.specs.Scan.{classTable}
 use Rattle.letters.proofs.Steps.{Passing, step-asks, step-gives, all-passed}
 use Rattle.letters.proofs.scan.Statement.{statement}
 use Rattle.letters.proofs.scan.Tie as tie
@@ -18,7 +18,7 @@ abbrev μ-loop : tie.MeasureT-loop
 
 -- where the loop begins: the constant is the table of two rows, by computation
 constant-is-the-class-table : tie.Need-loop-holds Inv-loop μ-loop
-unfolding classTable alphabet letters vowelAfter among
+unfolding classTable letters
 constant-is-the-class-table c =
     let made = c .nothing-passed .ensures in
     (omega arith, refl, omega (arith, made .0), made .1)

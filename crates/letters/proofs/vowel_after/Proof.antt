@@ -2,12 +2,12 @@
 use borrow.Author.Needs.{needs}
 use native.Mathlib.Omega.{arith}
 use mathlib.Core.Path.{sym, ap, _∙_}
-use mathlib.Core.Bool.{Bool, false, _&&_, _||_}
+use mathlib.Core.Bool.{_&&_, _||_}
 use mathlib.Core.List.{List, []}
 use lib.ListN.{getD}
-use Prim.Native.Nat.{_-_}
+use Prim.Native.Nat.{ℕ, _-_}
 use Rattle.paper.specs.Noted.{classBefore}
-use Rattle.letters.proofs.Classes.{below-a, above-z, in-table}
+use Rattle.letters.proofs.Classes.{below-a, above-z, odd, in-table}
 use Rattle.letters.proofs.vowel_after.Statement.{statement}
 use Rattle.letters.proofs.vowel_after.Tie as tie
 
@@ -21,8 +21,8 @@ returns-3 : tie.Need-returns-3
 returns-3 c =
     let start = c .before .before .before .before in
     let a = start .args in
-    ap (λ (t : List (List Bool)). getD (getD t 0 []) (a .letter - 97) false || (getD (getD t 1 []) (a .letter - 97) false && a .consonant))
-    (start .pre)
+    let k = a .letter - 97 in
+    ap (λ (t : List (List ℕ)). odd (getD (getD t 0 []) k 0) || (odd (getD (getD t 1 []) k 0) && a .consonant)) (start .pre)
     ∙ in-table (a .consonant) (a .letter) (omega arith) (omega arith)
 
 pub vowel-after-spec : {M : Type 1} → statement M

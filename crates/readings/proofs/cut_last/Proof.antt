@@ -9,7 +9,7 @@ use lib.Seq.{length-take-le, take-take}
 use Rattle.paper.specs.Groups.{Rule}
 use Rattle.paper.specs.Noted.{noted-part}
 use Rattle.paper.specs.Shipped.{group-3, group-4, group-5a, group-5b}
-use Rattle.readings.specs.Steps.{leaves, Cut}
+use Rattle.groups.specs.Reads.{leaves, Cut}
 use Rattle.readings.proofs.cut_last.Statement.{statement}
 use Rattle.readings.proofs.cut_last.Tie as tie
 

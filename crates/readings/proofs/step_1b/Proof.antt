@@ -9,8 +9,9 @@ use lib.ListN.{length, take}
 use lib.Seq.{length-take-le, take-take}
 use Rattle.paper.specs.Groups.{obeyed, opensNext}
 use Rattle.paper.specs.Shipped.{group-1b, follow-up}
-use Rattle.readings.specs.Steps.{leaves, leavesOpened}
-use Rattle.readings.proofs.Chosen.{shorter}
+use Rattle.groups.specs.Reads.{leaves}
+use Rattle.groups.specs.ReadsLaws.{shorter}
+use Rattle.readings.specs.Steps.{leavesOpened}
 use Rattle.readings.proofs.step_1b.Statement.{statement}
 use Rattle.readings.proofs.step_1b.Tie as tie
 
@@ -29,13 +30,13 @@ module _ (c : tie.After-cut-1b) where
   left = c .cut-1b .result .len
 
   less : left ≤ s .args .len
-  less = omega (arith, c .cut-1b .ensures .0 .within, length-take-le (s .args .len) place (s .pre .0 .within))
+  less = omega (arith, c .cut-1b .ensures .cut .within, length-take-le (s .args .len) place (s .pre .0 .within))
 
   front : take left place ≡ leaves group-1b word
-  front = sym (take-take left (s .args .len) place less) ∙ c .cut-1b .ensures .0 .left
+  front = sym (take-take left (s .args .len) place less) ∙ c .cut-1b .ensures .cut .left
 
   opened : {b : Bool} → c .cut-1b .result .opened ≡ b → opensNext (obeyed word group-1b) ≡ b
-  opened is = sym (c .cut-1b .ensures .1) ∙ is
+  opened is = sym (c .cut-1b .ensures .opens) ∙ is
 
   then-follows : c .cut-1b .result .opened ≡ true → leavesOpened group-1b follow-up word ≡ leaves follow-up (take left place)
   unfolding leavesOpened
@@ -57,13 +58,14 @@ follow-requires c κs =
 returns : tie.Need-returns
 returns c =
     let read = c .before .before .before .before .before .before .before .before in
-    let ran = c .before .before .before .before .follow in
-    (ran .ensures .0 ∙ sym (then-follows read (c .before .before .before .before .before .before .before .if1 .taken)), ran .ensures .1)
+    let ran = c .before .before .before .before .follow .ensures in
+    let opened-is = c .before .before .before .before .before .before .before .if1 .taken in
+    record { left = ran .left ∙ sym (then-follows read opened-is); stands = ran .stands }
 
 returns-2 : tie.Need-returns-2
 returns-2 c =
     let read = c .before in
-    (sym (then-stays read (c .if1 .left)), shorter (s read .pre .0) (left read) (less read))
+    record { left = sym (then-stays read (c .if1 .left)); stands = shorter (s read .pre .0) (left read) (less read) }
 
 pub step-1b-spec : {M : Type 1} → statement M
 step-1b-spec =

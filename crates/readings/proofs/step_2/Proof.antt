@@ -3,15 +3,13 @@ use borrow.Author.Needs.{needs}
 use native.Mathlib.Omega.{arith}
 use mathlib.Core.Path.{_≡_, sym}
 use mathlib.Core.List.{List}
-use mathlib.Core.Option.{none}
 use Prim.Native.Nat.{ℕ}
 use lib.ListN.{length, take}
 use lib.Seq.{length-take-le}
-use Rattle.paper.specs.Groups.{obeyed}
 use Rattle.paper.specs.Shipped.{group-2}
-use Rattle.readings.specs.Steps.{leaves, Stands}
-use Rattle.readings.proofs.Chosen.{none-leaves}
-use Rattle.readings.proofs.Narrow.{block-asks, block-fails, size-2, short-2}
+use Rattle.groups.specs.ReadsLaws.{stays}
+use Rattle.readings.proofs.Narrow.{block-asks, block-fails}
+use Rattle.readings.proofs.Tests.{size-2, short-2}
 use Rattle.readings.proofs.step_2.Statement.{statement}
 use Rattle.readings.proofs.step_2.Tie as tie
 
@@ -19,16 +17,12 @@ abbrev word : tie.Start → List ℕ
 word s = take (s .args .len) (s .args .word .now)
 
 size : (s : tie.Start) → length (word s) ≡ s .args .len
-size s = length-take-le _ _ (s .pre .within)
-
-stays : (s : tie.Start) → obeyed (word s) group-2 ≡ none
-    → (word s ≡ leaves group-2 (word s)) × Stands (s .args .word .now) (s .args .states .now) (s .args .len)
-stays s is = (sym (none-leaves group-2 (word s) (sym is)), s .pre)
+size s = length-take-le _ _ (s .pre .0 .within)
 
 returns : tie.Need-returns
 returns c =
     let s = c .before .before .before in
-    stays s (short-2 (word s) (omega (arith, size s)))
+    stays group-2 (s .pre .0) (short-2 (word s) (omega (arith, size s)))
 
 slice-aggregate-letter-at : tie.Need-slice-aggregate-letter-at
 slice-aggregate-letter-at c = sym (size (c .before .before .before .before))
@@ -40,14 +34,13 @@ within-2-requires : tie.Need-within-2-requires
 within-2-requires c κs =
     let b = c .before .before .before .before .before in
     let s = b .before .before .before .before .before .before in
-    let asks = block-asks group-2 _ _ _ _ _ (b .block-2 .ensures) (word s) (b .before .letter-at .ensures) size-2 in
-    ((s .pre, asks .0), asks .1)
+    (s .pre, block-asks group-2 _ _ _ _ _ (b .block-2 .ensures) (word s) (b .before .letter-at .ensures) size-2)
 
 returns-3 : tie.Need-returns-3
 returns-3 c =
     let b = c .before .before .before in
     let s = b .before .before .before .before .before .before in
-    stays s
+    stays group-2 (s .pre .0)
     (block-fails group-2 _ _ _ _ _ (b .block-2 .ensures) (word s) (b .before .letter-at .ensures) (c .before .kept .ensures) (c .if2 .left))
 
 pub step-2-spec : {M : Type 1} → statement M

@@ -1,8 +1,9 @@
 -- `readings::step_3` meets its contract: a word that is too short or passes no filter obeys no rule of group 3.
 use borrow.Author.Needs.{needs}
 use Rattle.paper.specs.Shipped.{group-3}
-use Rattle.readings.proofs.Cuts.{kept-whole}
-use Rattle.readings.proofs.Narrow.{block-asks, block-fails, size-3, short-3}
+use Rattle.groups.specs.ReadsLaws.{kept-whole}
+use Rattle.readings.proofs.Narrow.{block-asks, block-fails}
+use Rattle.readings.proofs.Tests.{size-3, short-3}
 use Rattle.readings.proofs.step_3.Statement.{statement}
 use Rattle.readings.proofs.step_3.Tie as tie
 
@@ -15,8 +16,7 @@ within-3-requires : tie.Need-within-3-requires
 within-3-requires c κs =
     let b = c .before .before in
     let s = b .before .before .before .before .before in
-    let asks = block-asks group-3 _ _ _ _ _ (b .block-3 .ensures) (s .args .word .now) (b .before .letter-at .ensures) size-3 in
-    ((s .pre, asks .0), asks .1)
+    (s .pre, block-asks group-3 _ _ _ _ _ (b .block-3 .ensures) (s .args .word .now) (b .before .letter-at .ensures) size-3)
 
 returns-3 : tie.Need-returns-3
 returns-3 c =

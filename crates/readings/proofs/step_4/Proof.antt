@@ -1,8 +1,9 @@
 -- `readings::step_4` meets its contract: a word that is too short or passes no filter obeys no rule of group 4.
 use borrow.Author.Needs.{needs}
 use Rattle.paper.specs.Shipped.{group-4}
-use Rattle.readings.proofs.Cuts.{kept-whole}
-use Rattle.readings.proofs.Narrow.{block-asks, block-fails, size-4, short-4}
+use Rattle.groups.specs.ReadsLaws.{kept-whole}
+use Rattle.readings.proofs.Narrow.{block-asks, block-fails}
+use Rattle.readings.proofs.Tests.{size-4, short-4}
 use Rattle.readings.proofs.step_4.Statement.{statement}
 use Rattle.readings.proofs.step_4.Tie as tie
 
@@ -15,8 +16,7 @@ within-4-requires : tie.Need-within-4-requires
 within-4-requires c κs =
     let b = c .before .before in
     let s = b .before .before .before .before .before in
-    let asks = block-asks group-4 _ _ _ _ _ (b .block-4 .ensures) (s .args .word .now) (b .before .letter-at .ensures) size-4 in
-    ((s .pre, asks .0), asks .1)
+    (s .pre, block-asks group-4 _ _ _ _ _ (b .block-4 .ensures) (s .args .word .now) (b .before .letter-at .ensures) size-4)
 
 returns-3 : tie.Need-returns-3
 returns-3 c =

@@ -1,23 +1,18 @@
 -- `readings::within_3` meets its contract: the rules of group 3 only cut, and none outside the block ends the word.
 use borrow.Author.Needs.{needs}
 use Rattle.paper.specs.Shipped.{group-3}
-use Rattle.readings.proofs.Narrow.{block-cuts, narrowed, size-3}
-use Rattle.readings.proofs.Tests.{cuts-3}
+use Rattle.readings.proofs.Narrow.{narrowed}
+use Rattle.readings.proofs.Tests.{reads-3, cuts-3}
 use Rattle.readings.proofs.within_3.Statement.{statement}
 use Rattle.readings.proofs.within_3.Tie as tie
 
-cut-by-requires : tie.Need-cut-by-requires
-cut-by-requires c κs =
-    let pre = c .before .before .before .before .pre in
-    let cut = block-cuts (cuts-3 _ (c .before .group-3 .ensures)) size-3 (pre .0 .1 .1) in
-    ((pre .0 .0, (cut .0, pre .0 .1 .0)), cut .1)
-
 returns : tie.Need-returns
 returns c =
-    let pre = c .before .before .before .before .before .pre in
-    let here = cuts-3 _ (c .before .before .group-3 .ensures) in
-    c .cut-by .ensures group-3 (narrowed (here .held) (here .decides-one) size-3 (pre .0 .1 .1) (pre .1))
+    let g = c .before .before in
+    let pre = g .before .before .before .pre in
+    c .cut-by .ensures group-3 (pre .0) (narrowed (reads-3 _ (g .group-3 .ensures)) (pre .1)) cuts-3 .cut
 
 pub within-3-spec : {M : Type 1} → statement M
-within-3-spec = tie.close
-    (tie.spec (λ c κs. search needs) (λ c. search needs) cut-by-requires returns)
+within-3-spec =
+    tie.close
+    (tie.spec (λ c κs. search needs) (λ c. search needs) (λ c κs. search needs) returns)
