@@ -1,8 +1,8 @@
 /* Lunarbugle: a proved stemmer for English words and texts, for hosts in C and C++.
  *
  * Link with liblunarbugle.a (rt staticlib lunarbugle). No entry keeps a pointer, allocates, or reads or writes anything but
- * the bytes it is lent. Every entry takes any bytes and always returns, on a machine that has the stack for it: at most 968
- * bytes for a word and 1,016 for a text, on x86-64.
+ * the bytes it is lent. Every entry takes any bytes and always returns, on a machine that has the stack for it: at most 616
+ * bytes for a word and 664 for a text, on x86-64.
  *
  * Numbers returned:
  *   0  done
