@@ -77,7 +77,7 @@ pub fn judge_by(length: usize, other: usize) -> Judged
 pub fn judge(word: &[u8]) -> Judged
     ensures { λ r. ⌜ judgementOf r ≡ judged (now (word .entry)) ⌝ }
 {
-    judge_by(word.len(), letters::first_other(word))
+    judge_by(word.len(), pieces::first_other(word))
 }
 
 // An answer in numbers: document 01's number, and the value returned besides it.

@@ -1,5 +1,5 @@
-// The class of a letter, the measure, the conditions and the letter test of document 01, on byte slices; and the states of a word, noted
-// beside it. Every function takes any bytes: a byte outside a to z is a consonant.
+// The class of a letter, the measure and the conditions of document 01, on byte slices; endings; and the states of a word, noted beside
+// it. Every function takes any bytes: a byte outside a to z is a consonant.
 ghost use mathlib.Core.Path.{_≡_};
 ghost use mathlib.Core.List.{List, [], _∷_, _++_};
 ghost use lib.Dec.{ltb};
@@ -149,7 +149,7 @@ pub fn note(word: &[u8], states: &mut [u8]) -> usize
     ensures { λ _. ⌜ now (states .exit) ≡ noted (now (states .entry)) (now (word .entry)) ⌝ }
 {
     if (states.len() <= word.len()) | (255 < word.len()) {
-        return first_other(word);
+        return pieces::first_other(word);
     }
     let table = &CLASS;
     let mut state: usize = 0;
@@ -220,21 +220,4 @@ pub fn ends_with(word: &[u8], ending: &[u8]) -> bool
         i += 1;
     }
     true
-}
-
-// The place of the first byte outside a to z, or the word's length where there is none.
-pub fn first_other(word: &[u8]) -> usize
-    ensures { λ r. ⌜ r ≡ firstOther (now (word .entry)) ⌝ }
-{
-    let mut i = 0;
-    while i < word.len() {
-        if word[i] < 97 {
-            return i;
-        }
-        if 122 < word[i] {
-            return i;
-        }
-        i += 1;
-    }
-    i
 }

@@ -7,3 +7,4 @@ pub mod LongestRuns
 pub mod NextLaws
 pub mod Lowered
 pub mod LetterBits
+pub mod FirstOther

@@ -1,8 +1,8 @@
 // What a word of a text is: its letters, where the next one starts and ends, and the next one as a part of the caller's own
-// text. Document 01, "The text run", decides; `specs/` writes it down.
+// text; and the letter test of a word, a to z. Document 01, "The text run", decides; `specs/` writes it down.
 ghost use mathlib.Core.Path.{_≡_};
 ghost use lib.ListN.{drop};
-ghost use Rattle.paper.specs.Words.{allSmall};
+ghost use Rattle.paper.specs.Words.{allSmall, firstOther};
 ghost use Rattle.pieces.specs.Pieces.{isLetter, leading};
 ghost use Rattle.pieces.specs.Next.{nextWordAt, wordEnd, NextWord};
 
@@ -15,6 +15,23 @@ fn is_letter(byte: u8) -> bool
         return false;
     }
     small <= 122
+}
+
+// The place of the first byte outside a to z, or the word's length where there is none.
+pub fn first_other(word: &[u8]) -> usize
+    ensures { λ r. ⌜ r ≡ firstOther (now (word .entry)) ⌝ }
+{
+    let mut i = 0;
+    while i < word.len() {
+        if word[i] < 97 {
+            return i;
+        }
+        if 122 < word[i] {
+            return i;
+        }
+        i += 1;
+    }
+    i
 }
 
 // The offset of the next word, searched from a place as if the text began there; the text's length where none follows.

@@ -15,7 +15,7 @@ use numbers::wide;
 fn has_other(bytes: &[u8]) -> bool
     ensures { λ r. ⌜ r ≡ outside (now (bytes .entry)) ⌝ }
 {
-    letters::first_other(bytes) < bytes.len()
+    pieces::first_other(bytes) < bytes.len()
 }
 
 // S2 is too long, or some byte of S1 or S2 is no letter.

@@ -14,7 +14,7 @@ use Rattle.paper.specs.Noted.{nextState}
 use Rattle.paper.specs.TestLaws.{neither-left, neither-right}
 use Rattle.letters.specs.Scan.{classTable}
 use Rattle.letters.proofs.Classes.{odd}
-use Rattle.letters.proofs.Others.{Sought, below-found, above-found, sought-more, none-found}
+use Rattle.pieces.specs.FirstOther.{Sought, below-found, above-found, sought-more, none-found}
 use Rattle.letters.proofs.Steps.{next-by-class, next-odd}
 use Rattle.letters.proofs.Writes.{Writing, writing-none, writing-more, noted-is, noted-not}
 use Rattle.letters.proofs.note.Statement.{statement}

@@ -1,10 +1,10 @@
--- `letters::first_other` meets its contract: what is left to find lies in the bytes not passed yet.
+-- `pieces::first_other` meets its contract: what is left to find lies in the bytes not passed yet.
 use Prim.Native.Nat.{_-_, _≤_}
 use native.Mathlib.Omega.{arith}
 use lib.ListN.{length}
-use Rattle.letters.proofs.Others.{Sought, below-found, above-found, sought-more, none-found}
-use Rattle.letters.proofs.first_other.Statement.{statement}
-use Rattle.letters.proofs.first_other.Tie as tie
+use Rattle.pieces.specs.FirstOther.{Sought, below-found, above-found, sought-more, none-found}
+use Rattle.pieces.proofs.first_other.Statement.{statement}
+use Rattle.pieces.proofs.first_other.Tie as tie
 
 abbrev Inv-loop : tie.InvT-loop
 Inv-loop word i₀ i = (i ≤ length word) × Sought word i
