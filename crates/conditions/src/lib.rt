@@ -78,13 +78,6 @@ fn least(condition: u8) -> usize
     }
 }
 
-// Whether one of the first four conditions holds of a part of so many letters, by the states of its word.
-fn reaches(condition: u8, states: &[u8], part: usize) -> bool
-    ensures { λ r. ⌜ r ≡ reachesBy condition (getD (now (states .entry)) part 0) ⌝ }
-{
-    least(condition) <= state_at(states, part)
-}
-
 // So many fewer, and 0 where there are not as many.
 pub fn less(n: usize, k: usize) -> usize
     ensures { λ r. ⌜ r ≡ n - k ⌝ }
@@ -100,8 +93,9 @@ pub fn holds_by(condition: u8, part: &[u8], states: &[u8]) -> bool
     ensures { λ r. ⌜ r ≡ holdsNoted condition (now (part .entry)) (now (states .entry)) ⌝ }
 {
     let n = part.len();
+    // of the first four the state alone tells
     if condition < 4 {
-        return reaches(condition, states, n);
+        return least(condition) <= state_at(states, n);
     }
     let state = state_at(states, n);
     let before = state_at(states, less(n, 1));
