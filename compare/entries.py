@@ -38,7 +38,7 @@ def through_entries(kind, one):
         return [request for request in one.requests(batch) if request[0] != NEXT]
 
     batches = min(one.batches, MOST_BATCHES)
-    return Set(f"{kind}, {one.name}", batches, requests, one.third, ENTRIES)
+    return Set(f"{kind}, {one.name}", batches, requests, one.third, one.apart, ENTRIES)
 
 
 SETS = [through_entries("words", one) for one in WORDS if one.name != "one run"]

@@ -1,17 +1,22 @@
 """The samples of document 01, and the edges that its sentences name, as requests with the answers
-that 01 gives. The second program is held to them first; both programs are compared on them, and
-the fixed input of `probe` is made of them."""
+that 01 gives, as 02 amends it. The second program is held to them first; both programs are compared
+on them, and the fixed input of `probe` is made of them."""
 
 import struct
 
 from probing import CHECK, NEXT, RUN, TEXT, TRANSLATE, WORD
-from second.sheets import END, GROUP, RULE, record
+from second.sheets import END, GROUP, RULE, record, sheet_of
+from second.tables import nodes_of
+from second.words import SHIPPED
 
 # Words
 
 STEMS = """feed→feed agreed→agre element→element hopping→hop hoping→hope snowing→snow falling→fall
-    controlling→control sky→sky toy→toi ies→i s→ ing→ing eed→eed relational→relat rational→ration
+    controlling→control sky→sky toy→toi ies→i s→s ing→ing eed→eed relational→relat rational→ration
     generalizations→gener oscillators→oscil xyying→xyi vileli→vile cats→cat sing→sing agre→agr"""
+
+# W-201: a word, its stem, and what reading the shipped rules, as a sheet or by its table, leaves of it.
+SHORT = """s→s→ y→y→y us→us→u as→as→a is→is→i ay→ay→ai by→by→by ed→ed→ed ies→i→i gas→ga→ga bed→bed→bed"""
 
 WRONG_LENGTH = [b"", b"a" * 65, b"1" * 65, b"a" * 4096, b"A" * 4096]
 OTHER_BYTES = [b"a1", b"1", b"Feed", b"feeD", b"FEED", b"cats ", b" cats", b"a\0", b"\xff"]
@@ -22,7 +27,13 @@ def done(word, stem):
     return (WORD, word), (0, len(stem), stem.ljust(len(word)))
 
 
-WORDS = [done(*pair.encode().split("→".encode())) for pair in STEMS.split()]
+def told(samples):
+    """The words of each sample."""
+    return [sample.encode().split("→".encode()) for sample in samples.split()]
+
+
+WORDS = [done(word, stem) for word, stem in told(STEMS)]
+WORDS += [done(word, stem) for word, stem, _ in told(SHORT)]
 WORDS += [done(b"a" * 64, b"a" * 64)]
 WORDS += [((WORD, word), (1, 0, word)) for word in WRONG_LENGTH]
 WORDS += [((WORD, word), (2, 0, word)) for word in OTHER_BYTES]
@@ -34,11 +45,12 @@ LONG = (b"a " * 32768)[:65536]
 
 TEXTS = [
     ((TEXT, FEEDS), (0, 2, 0, b"feed , hop    \n")),
-    ((TEXT, b"S-type"), (0, 2, 0, b" -type")),
+    ((TEXT, b"S-type"), (0, 2, 0, b"s-type")),
+    ((TEXT, b"Type S, US gallons"), (0, 4, 0, b"type s, us gallon ")),
     ((TEXT, b""), (0, 0, 0, b"")),
     ((TEXT, b"A" * 64), (0, 1, 0, b"a" * 64)),
     ((TEXT, b"A" * 65), (0, 0, 1, b"A" * 65)),
-    ((TEXT, b"it's caf\xc3\xa9s\0"), (0, 4, 0, b"it'  caf\xc3\xa9 \0")),
+    ((TEXT, b"it's caf\xc3\xa9s\0"), (0, 4, 0, b"it's caf\xc3\xa9s\0")),
     ((TEXT, LONG), (0, 32768, 0, LONG)),
     ((TEXT, LONG + b"A"), (5, 0, 0, LONG + b"A")),
     ((NEXT, FEEDS, 0), (0, 5)),
@@ -126,6 +138,11 @@ TABLES = [
     ((RUN, SHEET_EED, TABLE_EED, b"hoped"), (0, 3, b"hop  ")),
     ((RUN, ALWAYS + rule(b"", b"e") + CLOSE, [0, 0, 0, 1], b"hop"), (4, 0, b"hop")),
     ((RUN, CLOSE, [], b"cats"), (0, 4, b"cats")),
+]
+SHIPPED_SHEET, SHIPPED_TABLE = sheet_of(SHIPPED), sum(nodes_of(SHIPPED), [])
+TABLES += [
+    ((RUN, SHIPPED_SHEET, SHIPPED_TABLE, word), (0, len(left), left.ljust(len(word))))
+    for word, _, left in told(SHORT)
 ]
 
 ALL = WORDS + TEXTS + SHEETS + TABLES

@@ -18,12 +18,14 @@ def first_difference(got, wanted):
 
 
 class Result:
-    """What a comparison found: how many were compared, how many of these differ, the first few
-    differences as text, and how often each number was returned."""
+    """What a comparison found: how many were compared, how many of these differ, at how many the
+    third way stands apart as it has to, the first few differences as text, and how often each
+    number was returned."""
 
     def __init__(self):
         self.compared = 0
         self.different = 0
+        self.apart = 0
         self.shown = []
         self.numbers = Counter()
 
@@ -35,6 +37,7 @@ class Result:
     def add(self, other):
         self.compared += other.compared
         self.different += other.different
+        self.apart += other.apart
         self.shown = (self.shown + other.shown)[:SHOWN]
         self.numbers += other.numbers
 
@@ -43,6 +46,7 @@ class Result:
         numbers = ", ".join(f"{number}: {count}" for number, count in sorted(self.numbers.items()))
         print(
             f"{name}: {self.compared} {verb}, {self.different} differences"
+            f"{f', {self.apart} apart' if self.apart else ''}"
             f"{f' (numbers returned {numbers})' if numbers else ''} ({time.time() - began:.0f} s)",
             flush=True,
         )
@@ -54,13 +58,15 @@ class Set:
     """Requests that are made in batches; each batch is one run of the program.
 
     `requests(batch)` gives a batch's requests. `third(request)`, where there is one, gives the
-    answer by a third way, or None where that way has none."""
+    answer by a third way, or None where that way has none; at the requests of `apart`, and at no
+    other, it has to be another answer."""
 
-    def __init__(self, name, batches, requests, third=None, program=PROBE):
+    def __init__(self, name, batches, requests, third=None, apart=(), program=PROBE):
         self.name = name
         self.batches = batches
         self.requests = requests
         self.third = third
+        self.apart = apart
         self.program = program
 
     def compare(self, batch, alone):
@@ -81,7 +87,9 @@ class Set:
             got = coded if alone else wrote[at : at + len(coded)]
             at += len(coded)
             third = self.third(request) if self.third else None
-            if got != coded or third not in (None, answer):
+            stands_apart = third not in (None, answer)
+            result.apart += stands_apart
+            if got != coded or stands_apart != (request in self.apart):
                 lines = [f"request {request}", f"program {decoded(request, got)}"]
                 lines += [f"second  {answer}"] + ([f"third   {third}"] if third else [])
                 lines += [first_difference(got, coded)] if got != coded else []

@@ -114,11 +114,8 @@ def random_sheet(rng):
     return sheet
 
 
-SHIPPED_SHEET = sheet_of(SHIPPED)
-
-
 def well_formed(rng):
-    return SHIPPED_SHEET if rng.random() < 0.01 else sheet_of(made_groups(rng))
+    return samples.SHIPPED_SHEET if rng.random() < 0.01 else sheet_of(made_groups(rng))
 
 
 def well_formed_sheets(batch):

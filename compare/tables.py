@@ -1,16 +1,18 @@
 """Sets of table runs for request 6: samples, runs over made sheets and over the shipped one."""
 
 import random
+import string
 
 import samples
 from probing import RUN
+from samples import SHIPPED_SHEET, SHIPPED_TABLE
 from second.groups import read_group, run_groups
 from second.sheets import Faulty, read_sheet, sheet_of
 from second.tables import nodes_of
 from sets import Set
-from sheets import SHIPPED_SHEET, damaged, made_groups, made_letters
+from sheets import damaged, made_groups, made_letters
 from words import damaged as damaged_word
-from words import made_part, made_word, published, published_answer
+from words import letter_runs, made_part, made_word, published, published_answer
 
 
 def sample_runs(_batch):
@@ -56,18 +58,23 @@ def made_runs(batch):
 def shipped_runs(batch):
     """The shipped sheet and its table, on made words."""
     rng = random.Random(f"shipped runs {batch}")
-    made = sum(nodes_of(read_sheet(SHIPPED_SHEET)), [])
-    return [(RUN, SHIPPED_SHEET, made, made_word(rng)) for _ in range(1000)]
+    return [(RUN, SHIPPED_SHEET, SHIPPED_TABLE, made_word(rng)) for _ in range(1000)]
+
+
+def short_runs(_batch):
+    """The shipped sheet and its table on every word of one or two letters, which W-201 leaves to the
+    rules here."""
+    runs = [run for length in (1, 2) for run in letter_runs(string.ascii_lowercase, length)]
+    return [(RUN, SHIPPED_SHEET, SHIPPED_TABLE, run.encode()) for run in runs]
 
 
 def vocabulary_runs(batch):
     """The published vocabulary through the shipped table, an eighth to a batch."""
-    made = sum(nodes_of(read_sheet(SHIPPED_SHEET)), [])
-    return [(RUN, SHIPPED_SHEET, made, word) for word in list(published())[batch::8]]
+    return [(RUN, SHIPPED_SHEET, SHIPPED_TABLE, word) for word in list(published())[batch::8]]
 
 
 def published_stem(request):
-    """The published stem, which the native stemmer gives too."""
+    """The published stem, of words of one or two letters too: sheets are read as the paper is."""
     return published_answer(request[::3])
 
 
@@ -89,5 +96,6 @@ SETS = [
     Set("samples", 1, sample_runs, by_rules),
     Set("made", 24, made_runs, by_rules),
     Set("shipped", 4, shipped_runs, by_rules),
+    Set("shipped, short words", 1, short_runs, by_rules),
     Set("vocabulary", 8, vocabulary_runs, published_stem),
 ]

@@ -1,15 +1,23 @@
-"""Sets of texts for requests 2 and 3: samples, made texts, texts around the longest, next words."""
+"""Sets of texts for requests 2 and 3: samples, short words, made texts, texts around the longest, next
+words."""
 
 import random
+import string
 
 import samples
 from probing import NEXT, TEXT
 from sets import Set
-from words import made_part, made_word
+from words import letter_runs, made_part, made_word
 
 
 def sample_texts(_batch):
     return [request for request, _ in samples.TEXTS]
+
+
+def short_words(_batch):
+    """Every word of one or two letters, small and large ones, between words that lose a letter."""
+    runs = [run for length in (1, 2) for run in letter_runs(string.ascii_letters, length)]
+    return [(TEXT, f"cats {run}-gas".encode()) for run in runs]
 
 
 # The neighbours of the letters are among them, and characters of two and three bytes.
@@ -96,6 +104,7 @@ def next_words(batch):
 
 SETS = [
     Set("samples", 1, sample_texts),
+    Set("short words", 1, short_words),
     Set("made", 8, made_texts),
     Set("longest", LONGEST_BATCHES, longest_texts),
     Set("next word", 10, next_words),

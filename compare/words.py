@@ -1,6 +1,8 @@
-"""Sets of words for request 1: samples, the published vocabulary, made words."""
+"""Sets of words for request 1: samples, the published vocabulary, all short words, made words."""
 
+import itertools
 import random
+import string
 from functools import lru_cache
 from pathlib import Path
 
@@ -11,6 +13,9 @@ from sets import Set
 
 # Debian's package snowball-data: Porter's published vocabulary and, line by line, its stems.
 PUBLISHED = Path("/usr/share/snowball/data/porter")
+
+# Its words of one or two letters that have another stem there: it reads the paper without W-201.
+READ_OTHERWISE = b"as ay es ey is ns os rs s ts us uy".split()
 
 
 def sample_words(_batch):
@@ -23,7 +28,10 @@ def published():
     words = (PUBLISHED / "voc.txt").read_bytes().splitlines()
     stems = (PUBLISHED / "output.txt").read_bytes().splitlines()
     assert len(words) == len(stems) == 30428
-    return dict(zip(words, stems))
+    pairs = dict(zip(words, stems))
+    short = sorted(word for word, stem in pairs.items() if len(word) <= 2 and stem != word)
+    assert short == READ_OTHERWISE and len(short) == 12
+    return pairs
 
 
 def vocabulary(_batch):
@@ -34,6 +42,18 @@ def published_answer(request):
     word = request[1]
     stem = published()[word]
     return 0, len(stem), stem.ljust(len(word))
+
+
+def letter_runs(letters, length):
+    """All that can be written with so many of these letters."""
+    return map("".join, itertools.product(letters, repeat=length))
+
+
+def short_words(_batch):
+    """Every word of no, one or two bytes, and every one of three small letters."""
+    words = [bytes(run) for length in range(3) for run in itertools.product(range(256), repeat=length)]
+    words += [run.encode() for run in letter_runs(string.ascii_lowercase, 3)]
+    return [(WORD, word) for word in words]
 
 
 # Made words: the letters on which rules turn are common, and endings are stacked.
@@ -95,7 +115,8 @@ def one_run(_batch):
 
 SETS = [
     Set("samples", 1, sample_words),
-    Set("vocabulary", 1, vocabulary, published_answer),
+    Set("vocabulary", 1, vocabulary, published_answer, [(WORD, word) for word in READ_OTHERWISE]),
+    Set("short", 1, short_words),
     Set("made", 20, made_words),
     Set("long", 1, long_words),
     Set("one run", 1, one_run),

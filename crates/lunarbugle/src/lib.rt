@@ -1,5 +1,6 @@
 // The entries for hosts in C: each answers with packed numbers. `include/lunarbugle.h` declares them.
 ghost use mathlib.Core.Path.{_≡_};
+ghost use Rattle.paper.specs.Shipped.{shipped};
 ghost use Rattle.paper.specs.Words.{outcome, stem};
 ghost use Rattle.texts.specs.Texts.{textOutcome};
 ghost use Rattle.lunarbugle.specs.Packed.{packed, packedText};
@@ -19,8 +20,8 @@ pub extern "C" fn lunarbugle_stem(word: &mut [u8]) -> u64
 // The text run: 01's number, plus 256 times the words stemmed, plus 2^32 times the words left.
 #[no_mangle]
 pub extern "C" fn lunarbugle_text(text: &mut [u8]) -> u64
-    ensures { λ r. ⌜ r ≡ packedText (textOutcome stem (now (text .entry))) ⌝ }
-    ensures { λ _. ⌜ now (text .exit) ≡ textOutcome stem (now (text .entry)) .text ⌝ }
+    ensures { λ r. ⌜ r ≡ packedText (textOutcome (stem shipped) (now (text .entry))) ⌝ }
+    ensures { λ _. ⌜ now (text .exit) ≡ textOutcome (stem shipped) (now (text .entry)) .text ⌝ }
 {
     let reply = answers::of_text(texts::run(text));
     let number = reply.number as u64;

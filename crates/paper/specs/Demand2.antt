@@ -1,6 +1,6 @@
--- Demand 2 for words: every word of 1 to 64 small letters is done, its place afterwards holds its stem and then spaces, and
--- the value returned is the stem's length. And what holds of every call, by any word rule that never lengthens a word: its
--- numbers are small.
+-- Demand 2 for words, with W-201: every word of 1 to 64 small letters is done, its place afterwards holds its stem and then spaces,
+-- and the value returned is the stem's length; the stem of one or two letters is the word itself, that of more letters is what the
+-- shipped rules leave. And what holds of every call, by any word rule that never lengthens a word: its numbers are small.
 use Prim.Native.Nat.{ℕ, _≤_}
 use native.Mathlib.Omega.{arith}
 use mathlib.Core.Path.{_≡_, refl, sym, ap, _∙_}
@@ -12,13 +12,16 @@ use borrow.Author.Tests.{ltb-false}
 use Rattle.paper.specs.Groups.{Reading, done, outgrown}
 use Rattle.paper.specs.TestLaws.{by-test, neither-right}
 use Rattle.paper.specs.LengthLaws.{NeverLengthens, stem-done}
-use Rattle.paper.specs.Words.{stem, placed, wrongLength, allSmall, Outcome, outcome}
+use Rattle.paper.specs.Shipped.{shipped}
+use Rattle.paper.specs.Words.{readWord, stem, placed, wrongLength, allSmall, Outcome, outcome}
 use Rattle.paper.specs.Words.{judged, readingOutcome, judgedOutcome, wordOutcome}
-use Rattle.paper.specs.WordsLaws.{judged-taken, outcome-taken}
+use Rattle.paper.specs.WordsLaws.{judged-taken, outcome-taken, stem-short, stem-longer}
 
 -- what a call on a word of 1 to 64 small letters gives
 pub record Stemmed-to (word stem-of : List ℕ) : Type 0 where
-  pub stems : stem word ≡ done stem-of
+  pub stems : stem shipped word ≡ done stem-of
+  pub short-stays : length word ≤ 2 → stem-of ≡ word
+  pub longer-read : 3 ≤ length word → readWord shipped word ≡ done stem-of
   pub shorter : length stem-of ≤ length word
   pub gives : outcome word ≡ record { number = 0; value = length stem-of; place = placed word stem-of }
 
@@ -31,8 +34,10 @@ demand-2 word least most all =
       found .0,
       record {
         stems = found .1;
+        short-stays = λ few. let own : done (found .0) ≡ done word = sym (found .1) ∙ stem-short shipped word few in cc;
+        longer-read = λ many. sym (stem-longer shipped word many) ∙ found .1;
         shorter = found .2;
-        gives = outcome-taken stem word is-taken ∙ ap (readingOutcome word) (found .1);
+        gives = outcome-taken (stem shipped) word is-taken ∙ ap (readingOutcome word) (found .1);
       },
     )
 

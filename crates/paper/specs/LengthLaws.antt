@@ -1,5 +1,5 @@
--- When a group's result is no longer than its word, over any rule list; and that after each shipped group the word is no longer
--- than it was given, so that every word is done (demand 2).
+-- When a group's result is no longer than its word, and when no word outgrows its place, over any rule list; and that by the shipped
+-- rules every word is done (demand 2).
 use Prim.Native.Nat.{ℕ, _+_, _≤_}
 use native.Mathlib.Omega.{arith}
 use mathlib.Core.Path.{_≡_, refl, ap}
@@ -8,14 +8,15 @@ use mathlib.Core.List.{List, [], _∷_, map}
 use mathlib.Core.Option.{Option, none, some}
 use lib.Dec.{leb}
 use lib.ListN.{length, length-append, length-take}
-use borrow.Author.Tests.{le-leb, leb-true}
+use borrow.Author.Tests.{le-leb, leb-true, leb-false}
 use Rattle.paper.specs.Groups.{Action, replace, single-letter, written, Rule, Gate, always, if-opened, Group}
 use Rattle.paper.specs.Groups.{before, obeyed, act, runs, readTurn, result, opensNext, Step, steps, Reading, done, reading}
-use Rattle.paper.specs.TestLaws.{one-if, and-parts}
+use Rattle.paper.specs.TestLaws.{one-if, and-parts, by-test}
 use Rattle.paper.specs.GroupsLaws.{before-length, ending-short}
 use Rattle.paper.specs.ReadingLaws.{every, every-in, obeyed-first}
 use Rattle.paper.specs.Shipped.{shipped}
 use Rattle.paper.specs.Words.{readWord, stem}
+use Rattle.paper.specs.WordsLaws.{stem-short, stem-longer}
 
 -- a rule with so much room to add takes away at least what it writes, and one letter more where it opens the next group
 unfoldable pub tame-rule : ℕ → Rule → Bool
@@ -100,26 +101,37 @@ fits-done place word [] fits each = (word, refl, fits)
 fits-done place word (step ∷ later) fits each =
     rw (le-leb (length (step .word)) place (each .0)) (fits-done place (step .word) later (each .0) (each .1))
 
+-- read by tame groups, and stemmed by them, every word is done, with a word that fits its place
+module _ (groups : List Group) (is-tame : tame groups ≡ true) (word : List ℕ) where
+  pub tame-reads : Done (length word) (readWord groups word)
+  unfolding readWord
+  tame-reads = fits-done (length word) word _ (omega arith) (tame-fits (length word) groups false word is-tame (omega arith))
+
+  pub tame-stems : Done (length word) (stem groups word)
+  tame-stems =
+      by-test (leb (length word) 2)
+      (λ few. (word, stem-short groups word (leb-true (length word) 2 few), omega arith))
+      (λ many. rw (stem-longer groups word (leb-false (length word) 2 many)) tame-reads)
+
 -- ## The shipped rules
 
 shipped-tame : tame shipped ≡ true
 unfolding tame every tame-rule shipped
 shipped-tame = refl
 
--- after each group the word is no longer than it was given
-pub shipped-fits : (word : List ℕ) → EachFits (length word) (steps (map readTurn shipped) false word)
-shipped-fits word = tame-fits (length word) shipped false word shipped-tame (omega arith)
+-- what they leave of a word fits its place
+pub read-done : (word : List ℕ) → Done (length word) (readWord shipped word)
+read-done word = tame-reads shipped shipped-tame word
 
 -- every word has a stem that fits its place: refusal 4 never comes of the shipped rules
-pub stem-done : (word : List ℕ) → Done (length word) (stem word)
-unfolding stem readWord
-stem-done word = fits-done (length word) word _ (omega arith) (shipped-fits word)
+pub stem-done : (word : List ℕ) → Done (length word) (stem shipped word)
+stem-done word = tame-stems shipped shipped-tame word
 
 -- a word rule that never gives more letters than it was given
 abbrev pub NeverLengthens : (List ℕ → Reading) → Type 0
 NeverLengthens rule = (letters left : List ℕ) → rule letters ≡ done left → length left ≤ length letters
 
-pub stem-never-lengthens : NeverLengthens stem
+pub stem-never-lengthens : NeverLengthens (stem shipped)
 stem-never-lengthens letters left leaves =
     let found = stem-done letters in
     let same : found .0 ≡ left = cc in

@@ -1,16 +1,18 @@
--- The samples that document 01 marks P, and its examples of the measure, each as one statement over a single list; and how many rules it
--- has.
+-- The samples that document 01 marks P, with W-201's answer for s; words of one and two letters by their stem and as sheets and tables
+-- read them, side by side; and 01's examples of the measure: each as one statement over a single list. And how many rules 01 has.
 use Prim.Native.Nat.{ℕ, _+_}
 use Prim.Native.String.{String}
-use mathlib.Core.Path.{_≡_, refl}
+use native.Mathlib.Omega.{arith}
+use mathlib.Core.Path.{_≡_, refl, sym, ap, _∙_}
 use mathlib.Core.List.{List, [], _∷_, map}
-use lib.ListN.{length}
+use lib.ListN.{length, getD}
 use Rattle.paper.specs.Letters.{letters, among, vowelAfter, classAfter, inward, classOf, letterAt, classAt, rises, measure}
 use Rattle.paper.specs.Conditions.{someVowel, *v*, *d, *o, lastIs, conditions, holds}
 use Rattle.paper.specs.Groups.{Group, done, same, endsWith, before, which, first, fitting, longest, chosen, obeyed, act}
 use Rattle.paper.specs.Groups.{result, opensNext, steps, reading}
 use Rattle.paper.specs.Shipped.{shipped}
-use Rattle.paper.specs.Words.{readWord, stem}
+use Rattle.paper.specs.Words.{readWord, stem, placed, wrongLength, allSmall, Outcome, judged, readingOutcome, judgedOutcome}
+use Rattle.paper.specs.Words.{wordOutcome, outcome}
 
 -- "nine groups, 62 rules"
 unfoldable pub ruleCount : List Group → ℕ
@@ -34,18 +36,63 @@ samples =
     ∷ ("sky", "sky")
     ∷ ("toy", "toi")
     ∷ ("ies", "i")
-    ∷ ("s", "")
+    ∷ ("s", "s")
     ∷ ("relational", "relat")
     ∷ ("generalizations", "gener")
     ∷ ("oscillators", "oscil")
     ∷ ("xyying", "xyi")
     ∷ []
 
-pub samples-hold : map (λ s. stem (letters (s .0))) samples ≡ map (λ s. done (letters (s .1))) samples
+pub samples-hold : map (λ s. stem shipped (letters (s .0))) samples ≡ map (λ s. done (letters (s .1))) samples
 unfolding among vowelAfter classAfter inward classOf letterAt classAt rises measure someVowel *v* *d *o lastIs
     conditions holds same endsWith before which first fitting longest chosen obeyed act result opensNext steps reading shipped
     readWord stem samples
 samples-hold = refl
+
+-- a word, what the word stemmer leaves in its place, and what reading the shipped rules does, as a sheet and as a table are read
+unfoldable pub shortSamples : List (String × String × String)
+shortSamples =
+    ("s", "s", " ")
+    ∷ ("us", "us", "u ")
+    ∷ ("as", "as", "a ")
+    ∷ ("ay", "ay", "ai")
+    ∷ ("by", "by", "by")
+    ∷ ("y", "y", "y")
+    ∷ ("ies", "i  ", "i  ")
+    ∷ ("gas", "ga ", "ga ")
+    ∷ []
+
+abbrev pub Places : Type 0
+Places = List ℕ × List ℕ
+
+-- the places after the two calls on a word
+abbrev pub bothPlaces : String → Places
+bothPlaces word = (outcome (letters word) .place, wordOutcome (readWord shipped) (letters word) .place)
+
+pub short-samples-hold :
+    map (λ s. bothPlaces (s .0)) shortSamples ≡ map {B = Places} (λ s. (letters (s .1), letters (s .2))) shortSamples
+unfolding among vowelAfter classAfter inward classOf letterAt classAt rises measure someVowel *v* *d *o lastIs
+    conditions holds same endsWith before which first fitting longest chosen obeyed act result opensNext steps reading shipped
+    readWord stem allSmall wrongLength judged placed readingOutcome judgedOutcome wordOutcome shortSamples
+short-samples-hold = refl
+
+-- the two calls give one outcome
+abbrev pub Agree : String → Type 0
+Agree word = wordOutcome (readWord shipped) (letters word) ≡ outcome (letters word)
+
+differs : (word : String) (own left : List ℕ) → bothPlaces word ≡ (own, left) → (own ≡ left → ⊥) → Agree word → ⊥
+differs word own left are apart same =
+    apart (sym (ap (λ (p : Places). p .0) are) ∙ ap (λ (o : Outcome). o .place) (sym same) ∙ ap (λ (p : Places). p .1) are)
+
+-- which they do not on "s" and on "us"
+pub short-differ : (Agree "s" → ⊥) × (Agree "us" → ⊥)
+unfolding letters shortSamples
+short-differ = (
+  differs "s" (letters "s") (letters " ") (ap (λ (l : List Places). getD l 0 ([], [])) short-samples-hold)
+      (λ e. let letter : _≡_ {A = ℕ} 115 32 = ap (λ (l : List ℕ). getD l 0 0) e in omega arith),
+  differs "us" (letters "us") (letters "u ") (ap (λ (l : List Places). getD l 1 ([], [])) short-samples-hold)
+      (λ e. let letter : _≡_ {A = ℕ} 115 32 = ap (λ (l : List ℕ). getD l 1 0) e in omega arith),
+)
 
 -- a part and its measure
 unfoldable pub measures : List (String × ℕ)

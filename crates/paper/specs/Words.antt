@@ -1,4 +1,4 @@
--- The stem of a word, and what a call on a word answers: document 01, "Numbers returned".
+-- The stem of a word, and what a call on a word answers: document 01, "Numbers returned", with W-201 of document 02.
 use Prim.Native.Nat.{ℕ, _-_}
 use mathlib.Core.Path.{_≡_}
 use mathlib.Core.Bool.{Bool, true, false, cond, _&&_, _||_}
@@ -12,9 +12,9 @@ use Rattle.paper.specs.Shipped.{shipped}
 unfoldable pub readWord : List Group → List ℕ → Reading
 readWord groups word = through (length word) (map readTurn groups) false word
 
--- the stem of a word: what the shipped rules leave of it
-unfoldable pub stem : List ℕ → Reading
-stem word = readWord shipped word
+-- the stem of a word by groups. W-201: "leaves words of one or two letters as they are"; a longer word is read
+unfoldable pub stem : List Group → List ℕ → Reading
+stem groups word = cond (leb (length word) 2) (done word) (readWord groups word)
 
 abbrev pub spaces : ℕ → List ℕ
 spaces n = replicate n 32
@@ -84,4 +84,4 @@ wordOutcome reading word = judgedOutcome word (reading word) (judged word)
 
 -- a call of the word stemmer
 abbrev pub outcome : List ℕ → Outcome
-outcome word = wordOutcome stem word
+outcome word = wordOutcome (stem shipped) word

@@ -1,17 +1,17 @@
--- Laws of a call on a word: the first byte outside a to z, what is said of a word before it is read, and from the ways out of
--- a call to its outcome, whatever reads the word.
+-- Laws of a call on a word: the first byte outside a to z, what is said of a word before it is read, which words are their own
+-- stem, and from the ways out of a call to its outcome, whatever reads the word.
 use Prim.Native.Nat.{ℕ, suc, _-_, _≤_, _<_, compare·suc-suc}
 use native.Mathlib.Omega.{arith}
 use mathlib.Core.Path.{_≡_, refl, sym}
 use mathlib.Core.Bool.{Bool, true, false, cond, not}
-use mathlib.Core.List.{List, [], _∷_, _++_}
+use mathlib.Core.List.{List, [], _∷_, _++_, append-nil}
 use lib.Dec.{eqb, ltb}
 use lib.ListN.{length, take, drop, getD, replicate}
 use lib.Seq.{drop-cons, length-take-le}
-use borrow.Author.Tests.{eq-eqb, ne-eqb, lt-ltb, le-ltb, ltb-false}
-use Rattle.paper.specs.Groups.{Reading, done, outgrown}
+use borrow.Author.Tests.{eq-eqb, ne-eqb, lt-ltb, le-ltb, ltb-false, le-leb, lt-leb}
+use Rattle.paper.specs.Groups.{Group, Reading, done, outgrown}
 use Rattle.paper.specs.TestLaws.{by-test, or-right, neither-right}
-use Rattle.paper.specs.Words.{placed, wrongLength, small, allSmall, firstOther, Gives}
+use Rattle.paper.specs.Words.{readWord, stem, placed, wrongLength, small, allSmall, firstOther, Gives}
 use Rattle.paper.specs.Words.{taken, turnedDown, judged, judgedBy, readingOutcome, judgedOutcome, wordOutcome}
 
 -- ## The first byte outside a to z
@@ -75,7 +75,25 @@ taken-short word is =
     (λ wrong. let refused : taken ≡ turnedDown 1 0 = rw wrong at is in let no : _≡_ {A = ℕ} 0 1 = cc in absurd (omega arith))
     (λ right. ltb-false 64 (length word) (neither-right (eqb (length word) 0) _ right))
 
+-- ## The stem, by any groups
+
+module _ (groups : List Group) (word : List ℕ) where
+  -- a word of one or two letters is its own stem
+  pub stem-short : length word ≤ 2 → stem groups word ≡ done word
+  unfolding stem
+  stem-short few = rw (le-leb (length word) 2 few)
+
+  -- the stem of a longer word is what the groups leave of it, as before W-201
+  pub stem-longer : 3 ≤ length word → stem groups word ≡ readWord groups word
+  unfolding stem
+  stem-longer many = rw (lt-leb (length word) 2 many)
+
 -- ## The outcome, whatever reads the word
+
+-- it asks a word rule of the word alone
+pub outcome-same : (one other : List ℕ → Reading) (word : List ℕ) → one word ≡ other word → wordOutcome one word ≡ wordOutcome other word
+unfolding wordOutcome
+outcome-same one other word same = rw same
 
 module _ (reading : List ℕ → Reading) (word : List ℕ) where
   -- a refusal leaves the word as it came
@@ -91,6 +109,13 @@ module _ (reading : List ℕ → Reading) (word : List ℕ) where
     pub gives-outgrown : {after : List ℕ} → reading word ≡ outgrown → after ≡ word → Gives (wordOutcome reading word) 4 0 after
     unfolding readingOutcome
     gives-outgrown e same = rw (outcome-taken, e) (record { number-is = refl; value-is = refl; place-is = same })
+
+    -- the word is its own stem: no space is left to fill
+    pub gives-whole : reading word ≡ done word → Gives (wordOutcome reading word) 0 (length word) word
+    unfolding readingOutcome placed
+    gives-whole e =
+        let none : length word - length word ≡ 0 = omega arith in
+        rw (outcome-taken, e) (record { number-is = refl; value-is = refl; place-is = rw none (sym (append-nil word)) })
 
     -- the stem stands first, and spaces fill the rest
     pub gives-done : (left after : List ℕ) (size : ℕ) → reading word ≡ done (take size left)

@@ -1,4 +1,4 @@
--- What the nine groups leave one after the other is the stem, and nothing they leave outgrows the word's place.
+-- What the nine groups leave one after the other is what the shipped rules leave, and nothing of it outgrows the word's place.
 use Prim.Native.Nat.{ℕ, _≤_}
 use mathlib.Core.Path.{_≡_, refl, sym, ap, _∙_}
 use mathlib.Core.Bool.{Bool, true, false}
@@ -10,8 +10,8 @@ use Rattle.paper.specs.Groups.{Rule, Gate, always, if-opened, runs, Turn, readT
 use Rattle.paper.specs.Groups.{reading, through}
 use Rattle.paper.specs.Shipped.{group-1a, group-1b, follow-up, group-1c, group-2, group-3, group-4, group-5a, group-5b, shipped}
 use Rattle.paper.specs.TurnLaws.{turn-skipped, turn-run, turn-fits}
-use Rattle.paper.specs.LengthLaws.{stem-done}
-use Rattle.paper.specs.Words.{readWord, stem}
+use Rattle.paper.specs.LengthLaws.{read-done}
+use Rattle.paper.specs.Words.{readWord}
 use Rattle.groups.specs.Reads.{leaves}
 use Rattle.readings.specs.Steps.{leavesOpened}
 
@@ -79,15 +79,15 @@ module _ (word : List ℕ) where
   abbrev after-2 : List ℕ
   after-2 = leaves group-2 (leaves group-1c after-1b)
 
-  -- what the groups that write leave fits in the place, and what all leave is the stem
+  -- what the groups that write leave fits in the place, and what all leave is what the list leaves
   pub shipped-reads :
       ((length after-1b ≤ length word) × ((length (leaves group-1c after-1b) ≤ length word) × (length after-2 ≤ length word)))
-      × (stem word ≡ done (leaves group-5b (leaves group-5a (leaves group-4 (leaves group-3 after-2)))))
-  unfolding stem readWord steps reading
+      × (readWord shipped word ≡ done (leaves group-5b (leaves group-5a (leaves group-4 (leaves group-3 after-2)))))
+  unfolding readWord steps reading
   shipped-reads =
       let n = length word in
-      let left = stem-done word .0 in
-      let gives : through n (map readTurn shipped) false word ≡ done left = stem-done word .1 in
+      let left = read-done word .0 in
+      let gives : through n (map readTurn shipped) false word ≡ done left = read-done word .1 in
       let start : Gives n left nine false word
       = record { is = ap (λ (turns : List Turn). through n turns false word) (sym groups-are) ∙ gives } in
       let one = on group-1a {gate = always} refl start in

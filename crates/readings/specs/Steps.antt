@@ -1,4 +1,4 @@
--- What groups leave of a word one after the other, up to its stem.
+-- What groups leave of a word one after the other, up to what the shipped rules leave.
 use Prim.Native.Nat.{ℕ, _≤_}
 use mathlib.Core.Path.{_≡_}
 use mathlib.Core.Bool.{cond}
@@ -6,8 +6,8 @@ use mathlib.Core.List.{List}
 use lib.ListN.{length, take}
 use Rattle.paper.specs.Groups.{Rule, obeyed, opensNext, done}
 use Rattle.paper.specs.FirstFits.{NoneFits, ruleOf}
-use Rattle.paper.specs.Shipped.{group-3, group-4, group-5a, group-5b}
-use Rattle.paper.specs.Words.{stem}
+use Rattle.paper.specs.Shipped.{group-3, group-4, group-5a, group-5b, shipped}
+use Rattle.paper.specs.Words.{readWord}
 use Rattle.groups.specs.Reads.{leaves, Stands}
 
 -- of the n rules of a group none outside a block ends the word
@@ -27,6 +27,6 @@ pub record WrittenOpened (rules next : List Rule) (word place states : List ℕ)
 abbrev pub leavesLast : List ℕ → List ℕ
 leavesLast word = leaves group-5b (leaves group-5a (leaves group-4 (leaves group-3 word)))
 
--- so many letters of the place are the stem of the word that stood there
-abbrev pub StemStands : List ℕ → List ℕ → ℕ → Type 0
-StemStands word place len = (len ≤ length word) × (stem word ≡ done (take len place))
+-- so many letters of the place are what the shipped rules leave of the word that stood there
+abbrev pub ReadStands : List ℕ → List ℕ → ℕ → Type 0
+ReadStands word place len = (len ≤ length word) × (readWord shipped word ≡ done (take len place))

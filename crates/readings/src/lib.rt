@@ -18,7 +18,7 @@ ghost use Rattle.paper.specs.Shipped.{group-1a, group-1b, follow-up, group-1c, 
 ghost use Rattle.paper.specs.Words.{taken, judged, firstOther};
 ghost use Rattle.paper.specs.Noted.{Noted};
 ghost use Rattle.groups.specs.Reads.{leaves, Cut, CutOpens, Stands, Written};
-ghost use Rattle.readings.specs.Steps.{Outside, WrittenOpened, leavesOpened, leavesLast, StemStands};
+ghost use Rattle.readings.specs.Steps.{Outside, WrittenOpened, leavesOpened, leavesLast, ReadStands};
 
 // Its rules have no condition, so that no state is asked for.
 fn step_1a(word: &[u8]) -> usize
@@ -189,10 +189,10 @@ fn cut_last(word: &[u8], states: &[u8]) -> usize
     step_5b(&word[..after_5a], states)
 }
 
-// Reads all groups in the word's place, and returns the length of the stem that stands there then.
+// Reads all groups in the word's place, and returns how many letters they leave there.
 fn read_by(word: &mut [u8], states: &mut [u8]) -> usize
     requires { ⌜ Stands (now word) (now states) (length (now word)) ⌝ }
-    ensures { λ r. ⌜ StemStands (now (word .entry)) (now (word .exit)) r ⌝ }
+    ensures { λ r. ⌜ ReadStands (now (word .entry)) (now (word .exit)) r ⌝ }
 {
     let after_1a = step_1a(&word[..]);
     let after_1b = step_1b(word, states, after_1a);
@@ -201,7 +201,7 @@ fn read_by(word: &mut [u8], states: &mut [u8]) -> usize
     cut_last(&word[..after_2], &states[..])
 }
 
-// The place of the first byte outside a to z, or the word's length; and how many letters the stem has.
+// The place of the first byte outside a to z, or the word's length; and how many letters the groups leave.
 pub struct WordRead {
     pub other: usize,
     pub len: usize,
@@ -210,7 +210,7 @@ pub struct WordRead {
 // Reads all groups in the place of a word that 01 takes; any other word stays as it is.
 pub fn read(word: &mut [u8]) -> WordRead
     ensures { λ r. ⌜ r .other ≡ firstOther (now (word .entry)) ⌝ }
-    ensures { λ r. ⌜ (taken ≡ judged (now (word .entry)) → StemStands (now (word .entry)) (now (word .exit)) (r .len)) ⌝ }
+    ensures { λ r. ⌜ (taken ≡ judged (now (word .entry)) → ReadStands (now (word .entry)) (now (word .exit)) (r .len)) ⌝ }
     ensures { λ _. ⌜ ((taken ≡ judged (now (word .entry)) → ⊥) → now (word .exit) ≡ now (word .entry)) ⌝ }
 {
     let mut states = [0u8; 65];

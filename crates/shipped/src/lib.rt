@@ -1,7 +1,7 @@
 // The shipped rules as a sheet, and the table of that sheet, as constants; and their run on a word.
 ghost use mathlib.Core.Path.{_≡_};
 ghost use Rattle.paper.specs.Shipped.{shipped};
-ghost use Rattle.paper.specs.Words.{outcome, Gives};
+ghost use Rattle.paper.specs.Words.{readWord, wordOutcome, Gives};
 ghost use Rattle.answers.specs.Answers.{numberOfRan, valueOfRan};
 ghost use Rattle.sheets.specs.SheetBytes.{sheetOf};
 ghost use Rattle.siblings.specs.Layout.{tableOf};
@@ -27,9 +27,10 @@ pub fn table() -> [u16; 648]
     TABLE
 }
 
-// The run of the two on a word: "The table made from the shipped sheet gives the stem of demand 2."
+// The run of the two on a word: what reading the shipped rules group by group gives. From 3 letters on that is the stem of demand 2
+// (`delivered-runs` of `tables`); a word of one or two letters, which is its own stem, is read here as sheets are.
 pub fn run(word: &mut [u8]) -> Ran
-    ensures { λ r. ⌜ Gives (outcome (now (word .entry))) (numberOfRan r) (valueOfRan r) (now (word .exit)) ⌝ }
+    ensures { λ r. ⌜ Gives (wordOutcome (readWord shipped) (now (word .entry))) (numberOfRan r) (valueOfRan r) (now (word .exit)) ⌝ }
 {
     let rules = sheet();
     let nodes = table();

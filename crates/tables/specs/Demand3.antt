@@ -1,18 +1,23 @@
 -- Demand 3: "For every rule sheet that 01 accepts, and every word of 1 to 64 small letters, walking the table made from that
 -- sheet gives the same word, or the same refusal, as reading the sheet itself group by group. The table made from the
 -- shipped sheet gives the stem of demand 2." Of walks it holds for all groups and all words; of what runs, for every sheet that was
--- translated, and for the sheet and the table that are delivered.
-use Prim.Native.Nat.{ℕ, _*_}
-use mathlib.Core.Path.{_≡_, sym, ap, fun-ext, _∙_}
+-- translated, and for the sheet and the table that are delivered. The last sentence "holds for words of 3 letters or more, as sheets
+-- themselves are read as before" (W-201), and not for all words below.
+use Prim.Native.Nat.{ℕ, _*_, _≤_}
+use Prim.Native.String.{String}
+use mathlib.Core.Path.{_≡_, sym, ap, _∙_}
 use mathlib.Core.Bool.{true}
 use mathlib.Core.List.{List, [], _++_, append-nil}
-use lib.ListN.{take, drop}
+use lib.ListN.{length, take, drop}
 use lib.Seq.{take-at}
+use Rattle.paper.specs.Letters.{letters}
 use Rattle.paper.specs.Groups.{Group}
 use Rattle.paper.specs.GroupsLaws.{same-equal, same-itself}
 use Rattle.paper.specs.Nodes.{nodeCount}
 use Rattle.paper.specs.Shipped.{shipped}
 use Rattle.paper.specs.Words.{readWord, stem, wordOutcome, outcome}
+use Rattle.paper.specs.WordsLaws.{stem-longer, outcome-same}
+use Rattle.paper.specs.WordSamples.{short-differ}
 use Rattle.sheets.specs.Accepted.{groupsOf}
 use Rattle.sheets.specs.Sheets.{accepted, readSheet}
 use Rattle.sheets.specs.SheetBytes.{sheetOf}
@@ -36,8 +41,7 @@ demand-3 groups word = faithful-walks-words (nodesIn (tableOf groups)) groups (t
 -- the same number, value and place afterwards
 pub demand-3-outcome : (groups : List Group) (word : List ℕ)
     → wordOutcome (walkWord (nodesIn (tableOf groups)) groups) word ≡ wordOutcome (readWord groups) word
-demand-3-outcome groups word =
-    ap (λ (reading : List ℕ → _). wordOutcome reading word) (fun-ext (λ one. demand-3 groups one))
+demand-3-outcome groups word = outcome-same (walkWord (nodesIn (tableOf groups)) groups) (readWord groups) word (demand-3 groups word)
 
 -- ## Of runs
 
@@ -74,7 +78,18 @@ demand-3-runs sheet table word answered =
 pub delivered-right : rightTable shipped (tableOf shipped) ≡ true
 delivered-right = ap (rightTable shipped) (sym (append-nil (tableOf shipped))) ∙ right-in-front shipped []
 
--- and its runs give the stem
-pub delivered-runs : (word : List ℕ) → runOutcome (sheetOf shipped) (tableOf shipped) word ≡ outcome word
-unfolding stem
-delivered-runs word = run-reads (sheetOf shipped) (tableOf shipped) word shipped reads delivered-right
+-- and its runs give what reading the shipped rules group by group gives
+pub delivered-reads : (word : List ℕ) → runOutcome (sheetOf shipped) (tableOf shipped) word ≡ wordOutcome (readWord shipped) word
+delivered-reads word = run-reads (sheetOf shipped) (tableOf shipped) word shipped reads delivered-right
+
+-- which is the stem, of words of 3 letters or more
+pub delivered-runs : (word : List ℕ) → 3 ≤ length word → runOutcome (sheetOf shipped) (tableOf shipped) word ≡ outcome word
+delivered-runs word many = delivered-reads word ∙ outcome-same (readWord shipped) (stem shipped) word (sym (stem-longer shipped word many))
+
+-- and not of every word below: a run still leaves nothing of "s", and makes "us" "u"
+abbrev agrees : String → Type 0
+agrees word = runOutcome (sheetOf shipped) (tableOf shipped) (letters word) ≡ outcome (letters word)
+
+pub delivered-differs : (agrees "s" → ⊥) × (agrees "us" → ⊥)
+delivered-differs =
+    (λ same. short-differ .0 (sym (delivered-reads _) ∙ same), λ same. short-differ .1 (sym (delivered-reads _) ∙ same))

@@ -1,22 +1,24 @@
 -- Demand 2 for texts: "a text of at most 65,536 bytes holds the same at each word; both counts are 01's." It holds of any word rule
--- that answers every word with a stem no longer than the word; ours is `stem`.
-use Prim.Native.Nat.{ℕ, suc, _≤_, _<_}
+-- that answers every word with a stem no longer than the word; ours is `stem shipped`.
+use Prim.Native.Nat.{ℕ, suc, _-_, _≤_, _<_}
 use mathlib.Core.Path.{_≡_, refl, ap, _∙_}
 use mathlib.Core.Bool.{true, false, cond}
-use mathlib.Core.List.{List, [], _∷_, _++_, map}
+use mathlib.Core.List.{List, [], _∷_, _++_, map, append-nil}
 use native.Mathlib.Omega.{arith}
 use lib.Dec.{ltb}
 use lib.ListN.{length, take, drop, getD, length-map}
 use lib.Seq.{take-at, drop-at}
 use borrow.Author.Tests.{le-ltb}
-use Rattle.paper.specs.Groups.{Reading, done}
+use Rattle.paper.specs.Groups.{Group, Reading, done}
 use Rattle.paper.specs.LengthLaws.{Done, NeverLengthens, stem-done}
 use Rattle.paper.specs.TestLaws.{by-test}
+use Rattle.paper.specs.Shipped.{shipped}
 use Rattle.paper.specs.Words.{placed, stem}
+use Rattle.paper.specs.WordsLaws.{stem-short}
 use Rattle.pieces.specs.Pieces.{isLetter, lowered, Piece, word, other, pieces}
 use Rattle.pieces.specs.PiecesLaws.{startsOutside, endsOutside}
 use Rattle.pieces.specs.LongestRuns.{IsWord}
-use Rattle.texts.specs.Texts.{Ran, answered, ofWord, ofPiece, ofPieces, runText, Outcome, textOutcome}
+use Rattle.texts.specs.Texts.{Ran, stemmedTo, answered, ofWord, ofPiece, ofPieces, runText, Outcome, textOutcome}
 use Rattle.texts.specs.TextsLaws.{run-word, long-word, word-length, length-stays, others-stay}
 use Rattle.texts.specs.OutcomeLaws.{finished-within}
 
@@ -128,5 +130,24 @@ module _ (rule : List ℕ → Reading) (always : Stems rule) where
       })
 
 -- by the stemmer
-pub demand-2-texts : (text : List ℕ) → length text ≤ 65536 → Rewritten stem text (textOutcome stem text)
-demand-2-texts text within = rewritten stem stem-done text within
+pub demand-2-texts : (text : List ℕ) → length text ≤ 65536 → Rewritten (stem shipped) text (textOutcome (stem shipped) text)
+demand-2-texts text within = rewritten (stem shipped) stem-done text within
+
+-- ## Words of one or two letters
+
+-- such a word is made small, stays as it then is, and counts as stemmed, whatever the rules
+pub short-made-small : (groups : List Group) (letters : List ℕ) → length letters ≤ 2
+    → ofWord (stem groups) letters ≡ stemmedTo (map lowered letters)
+unfolding ofWord answered placed
+short-made-small groups letters few =
+    let small = map lowered letters in
+    let size = length-map letters lowered in
+    let none : length letters - length small ≡ 0 = omega (arith, size) in
+    rw (le-ltb 64 (length letters) (omega arith), stem-short groups small (omega (arith, size)), none, append-nil small)
+
+-- and so it stands in its text: `S-type` gives `s-type`
+pub short-in-a-text : (text front letters back : List ℕ) → length text ≤ 65536 → CutAt text front letters back → length letters ≤ 2
+    → placeOf front letters (textOutcome (stem shipped) text .text) ≡ map lowered letters
+short-in-a-text text front letters back within cut few =
+    rw (finished-within (stem shipped) text within)
+    (there (stem shipped) stem-done text front letters back cut ∙ ap (λ (ran : Ran). ran .text) (short-made-small shipped letters few))

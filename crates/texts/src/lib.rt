@@ -5,6 +5,7 @@ ghost use Prim.Native.Nat.{_≤_};
 ghost use mathlib.Core.Bool.{true};
 ghost use mathlib.Core.List.{map};
 ghost use lib.ListN.{length};
+ghost use Rattle.paper.specs.Shipped.{shipped};
 ghost use Rattle.paper.specs.Words.{allSmall, stem};
 ghost use Rattle.pieces.specs.Pieces.{lowered};
 ghost use Rattle.pieces.specs.LongestRuns.{allLetters, IsWord};
@@ -29,7 +30,7 @@ fn stem_word(word: &mut [u8], small: bool)
     requires { ⌜ IsWord (now word) ⌝ }
     requires { ⌜ length (now word) ≤ 64 ⌝ }
     requires { ⌜ small ≡ allSmall (now word) ⌝ }
-    ensures { λ _. ⌜ ofWord stem (now (word .entry)) ≡ stemmedTo (now (word .exit)) ⌝ }
+    ensures { λ _. ⌜ ofWord (stem shipped) (now (word .entry)) ≡ stemmedTo (now (word .exit)) ⌝ }
 {
     if !small {
         make_small(word);
@@ -39,7 +40,7 @@ fn stem_word(word: &mut [u8], small: bool)
 
 // The text run: each word of 1 to 64 letters is stemmed where it stands, by lending only that part of the text.
 pub fn run(text: &mut [u8]) -> TextRun
-    ensures { λ r. ⌜ Gives (textOutcome stem (now (text .entry))) r (now (text .exit)) ⌝ }
+    ensures { λ r. ⌜ Gives (textOutcome (stem shipped) (now (text .entry))) r (now (text .exit)) ⌝ }
 {
     if 65536 < text.len() {
         return TextRun::TooLong;

@@ -4,6 +4,7 @@ use mathlib.Core.Path.{_≡_, _∙_}
 use mathlib.Core.List.{List}
 use borrow.Author.Needs.{needs}
 use native.Mathlib.Omega.{arith}
+use Rattle.paper.specs.Shipped.{shipped}
 use Rattle.paper.specs.Words.{stem}
 use Rattle.texts.specs.Texts.{textOutcome}
 use Rattle.texts.specs.OutcomeLaws.{number-within, counts-within}
@@ -13,9 +14,9 @@ use Rattle.lunarbugle.proofs.lunarbugle_text.Tie as tie
 
 -- the three numbers are the outcome's, and small
 record Told (text : List ℕ) (number stemmed left : ℕ) : Type 0 where
-  is-number : number ≡ textOutcome stem text .number
-  is-stemmed : stemmed ≡ textOutcome stem text .stemmed
-  is-left : left ≡ textOutcome stem text .left
+  is-number : number ≡ textOutcome (stem shipped) text .number
+  is-stemmed : stemmed ≡ textOutcome (stem shipped) text .stemmed
+  is-left : left ≡ textOutcome (stem shipped) text .left
   small : number ≤ 5
   few : stemmed + left ≤ 65536
 
@@ -33,8 +34,8 @@ told c =
       is-number = number;
       is-stemmed = stemmed;
       is-left = left;
-      small = omega (arith, number, number-within stem text);
-      few = omega (arith, stemmed, left, counts-within stem text);
+      small = omega (arith, number, number-within (stem shipped) text);
+      few = omega (arith, stemmed, left, counts-within (stem shipped) text);
     }
 
 run-requires : tie.Need-run-requires

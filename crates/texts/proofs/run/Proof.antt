@@ -4,6 +4,7 @@ use Prim.Native.Nat.{_+_, _-_, _≤_}
 use mathlib.Core.Path.{_≡_, refl, sym, ap, _∙_}
 use native.Mathlib.Omega.{arith}
 use lib.ListN.{length, length-take}
+use Rattle.paper.specs.Shipped.{shipped}
 use Rattle.paper.specs.Words.{allSmall, stem}
 use Rattle.texts.specs.Texts.{runText}
 use Rattle.texts.specs.OutcomeLaws.{gives-refused, gives-done}
@@ -18,7 +19,7 @@ Inv-loop text₀ stemmed₀ left₀ at₀ text stemmed left at =
     (at ≤ length text)
     × (length text ≡ length text₀)
     × (stemmed + left ≤ at)
-    × (whole stem text at stemmed left ≡ runText stem text₀)
+    × (whole (stem shipped) text at stemmed left ≡ runText (stem shipped) text₀)
 
 abbrev μ-loop : tie.MeasureT-loop
 μ-loop text₀ stemmed₀ left₀ at₀ text stemmed left at = length text₀ - at
@@ -37,10 +38,10 @@ found c =
     }
 
 returns : tie.Need-returns Inv-loop μ-loop
-returns c = gives-refused stem (c .before .before .args .text .now) (omega arith)
+returns c = gives-refused (stem shipped) (c .before .before .args .text .now) (omega arith)
 
 loop-holds : tie.Need-loop-holds Inv-loop μ-loop
-loop-holds c = (omega arith, refl, omega arith, nothing-then (runText stem (c .before .before .args .text .now)))
+loop-holds c = (omega arith, refl, omega arith, nothing-then (runText (stem shipped) (c .before .before .args .text .now)))
 
 next-word-at-requires : tie.Need-next-word-at-requires Inv-loop μ-loop
 next-word-at-requires c κs = tt
@@ -86,7 +87,7 @@ loop-again c =
       end-within f,
       loop .inv .1,
       omega (arith, turn-on f),
-      sym (turn-left stem f (loop .stemmed) (loop .left) (omega arith)) ∙ loop .inv .3,
+      sym (turn-left (stem shipped) f (loop .stemmed) (loop .left) (omega arith)) ∙ loop .inv .3,
     )
 
 loop-less-2 : tie.Need-loop-less-2 Inv-loop μ-loop
@@ -103,7 +104,7 @@ loop-again-2 c =
     let some = c .before .before .before .before .if3 .taken in
     let place = stemmed .last .0 in
     let long = length-after f place (stemmed .kept .0) in
-    let step = turn-stemmed stem f (loop .stemmed) (loop .left) place some (stemmed .kept .0) (stemmed .ensures) in
+    let step = turn-stemmed (stem shipped) f (loop .stemmed) (loop .left) place some (stemmed .kept .0) (stemmed .ensures) in
     (omega (arith, long, end-within f), long ∙ loop .inv .1, omega (arith, turn-on f, loop .inv .2), sym step ∙ loop .inv .3)
 
 loop-less-3 : tie.Need-loop-less-3 Inv-loop μ-loop
@@ -116,7 +117,7 @@ loop-again-3 c =
       end-within f,
       loop .inv .1,
       omega (arith, turn-on f),
-      sym (turn-none stem f (loop .stemmed) (loop .left) (omega arith)) ∙ loop .inv .3,
+      sym (turn-none (stem shipped) f (loop .stemmed) (loop .left) (omega arith)) ∙ loop .inv .3,
     )
 
 same-length : tie.Need-same-length Inv-loop μ-loop
@@ -125,8 +126,8 @@ same-length c = c .before .loop .inv .1
 returns-2 : tie.Need-returns-2 Inv-loop μ-loop
 returns-2 c =
     let loop = c .before .loop in
-    gives-done stem (c .before .before .before .before .args .text .now) (omega arith)
-    (sym (loop .inv .3) ∙ whole-done stem (loop .text) (loop .at) (loop .stemmed) (loop .left) (c .loop-test .left))
+    gives-done (stem shipped) (c .before .before .before .before .args .text .now) (omega arith)
+    (sym (loop .inv .3) ∙ whole-done (stem shipped) (loop .text) (loop .at) (loop .stemmed) (loop .left) (c .loop-test .left))
 
 pub run-spec : {M : Type 1} → statement M
 run-spec =

@@ -5,6 +5,7 @@ use mathlib.Core.Logic.{⊎-elim}
 use borrow.Author.Needs.{needs}
 use borrow.Author.Tests.{not-false}
 use lib.ListN.{length, length-map}
+use Rattle.paper.specs.Shipped.{shipped}
 use Rattle.paper.specs.Words.{stem, outcome}
 use Rattle.paper.specs.LengthLaws.{stem-done}
 use Rattle.pieces.specs.Pieces.{lowered}
@@ -33,7 +34,7 @@ returns c =
     let joined = c .before .before .before .before in
     let start = joined .before .before in
     let found = stem-done _ in
-    stemmed-word stem (start .args .word .now) _ (found .0) (start .pre .0) (start .pre .1 .0) (found .1)
+    stemmed-word (stem shipped) (start .args .word .now) _ (found .0) (start .pre .0) (start .pre .1 .0) (found .1)
     (c .before .before .stem .ensures .place-is ∙ ap (λ l. outcome l .place) (made joined))
 
 pub stem-word-spec : {M : Type 1} → statement M
