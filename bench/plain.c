@@ -1,6 +1,6 @@
-/* A plain C rendering of document 01's word stemmer, written the way such programs are mostly
-   written by hand: the word in a buffer, `ends` and `put` over the two lengths below, a switch on
-   a letter of the ending in the long steps. The proved stemmer's time is held against it. */
+/* A plain C rendering of document 01's word stemmer, with W-201, written the way such programs are
+   mostly written by hand: the word in a buffer, `ends` and `put` over the two lengths below, a switch
+   on a letter of the ending in the long steps. The proved stemmer's time is held against it. */
 
 #include "programs.h"
 
@@ -258,16 +258,16 @@ static void step_5(void)
 
 int plain_stem(char *letters, int length)
 {
+    if (length <= 2)
+        return length;
     word = letters;
     end = length;
     step_1a();
-    if (end > 0) {
-        step_1b();
-        step_1c();
-        step_2();
-        step_3();
-        step_4();
-        step_5();
-    }
+    step_1b();
+    step_1c();
+    step_2();
+    step_3();
+    step_4();
+    step_5();
     return end;
 }

@@ -1,7 +1,8 @@
 /* Times the text run against the same work by hand: the proved one through its C entry, a loop over
-   the plain rendering, and one over Porter's own program where the host was built with it. The texts have 1, 4, 16 and 64 KiB. A round goes over 64 KiB in texts
-   of one size; so where the time of a text grows with its length and no faster, a byte takes the
-   same time at all sizes. First all programs but Porter's own have to give the same texts and counts.
+   the plain rendering, and one over Porter's own program where the host was built with it. The texts
+   have 1, 4, 16 and 64 KiB. A round goes over 64 KiB in texts of one size; so where the time of a
+   text grows with its length and no faster, a byte takes the same time at all sizes. First all
+   programs but Porter's own have to give the same texts and counts.
 
    texts FILE ROUNDS    FILE has a word of small letters on each line */
 

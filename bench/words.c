@@ -1,8 +1,9 @@
 /* Times stemmers against each other on the same words: the proved one through its C entry, the
    plain rendering, and, where the host was built with them, libstemmer's Porter and Porter's own
    program, which is then the unit. First all but the last have to give the same stems for every
-   word. In each round every program stems every word once, in turn, so that whatever else the
-   machine does falls on all of them; the median round counts.
+   word, and libstemmer, which reads shorter ones too, for every word of three letters or more. In
+   each round every program stems every word once, in turn, so that whatever else the machine does
+   falls on all of them; the median round counts.
 
    words FILE ROUNDS    FILE has a word of small letters on each line */
 
@@ -60,15 +61,16 @@ static struct stem by_porters(uint8_t *word, size_t length)
 static const struct program {
     const char *name;
     struct stem (*stem)(uint8_t *word, size_t length);
+    size_t differs; /* the longest word that may have another stem */
 } programs[] = {
-    {"plain C -O2", by_plain},
-    {"plain C -O3", by_plain_inlined},
-    {"lunarbugle", by_lunarbugle},
+    {"plain C -O2", by_plain, 0},
+    {"plain C -O3", by_plain_inlined, 0},
+    {"lunarbugle", by_lunarbugle, 0},
 #ifdef WITH_LIBSTEMMER
-    {"libstemmer", by_libstemmer},
+    {"libstemmer", by_libstemmer, 2},
 #endif
 #ifdef PORTERS
-    {"Porter's own", by_porters},
+    {"Porter's own", by_porters, 64},
 #endif
 };
 
@@ -84,34 +86,38 @@ static struct stem stem_of(size_t program, size_t word)
     return programs[program].stem(space + starts[word], starts[word + 1] - starts[word]);
 }
 
-/* All programs but Porter's own, whose differences are counted, give the same stems. */
+/* All programs give the same stems, but where they may differ, which is counted. */
 static int agree(void)
 {
-    size_t others = 0;
+    size_t others[PROGRAMS] = {0};
     for (size_t word = 0; word < word_count; word++) {
         uint8_t first[64];
         size_t length = 0;
         for (size_t program = 0; program < PROGRAMS; program++) {
-            memcpy(space + starts[word], words + starts[word], starts[word + 1] - starts[word]);
+            size_t letters = starts[word + 1] - starts[word];
+            memcpy(space + starts[word], words + starts[word], letters);
             struct stem stem = stem_of(program, word);
             if (program == 0) {
                 length = stem.length;
                 memcpy(first, stem.letters, length);
             } else if (stem.length == length && memcmp(stem.letters, first, length) == 0) {
                 continue;
-            } else if (program == UNIT) {
-                others++;
+            } else if (letters <= programs[program].differs) {
+                others[program]++;
             } else {
                 printf("%s and %s differ at word %zu, %.*s\n", programs[0].name,
-                       programs[program].name, word + 1, (int)(starts[word + 1] - starts[word]),
-                       words + starts[word]);
+                       programs[program].name, word + 1, (int)letters, words + starts[word]);
                 return 0;
             }
         }
     }
     printf("%zu words: all programs give the same stems", word_count);
-    if (UNIT != 0)
-        printf(", but for Porter's own at %zu words", others);
+    const char *before = ", but for";
+    for (size_t program = 0; program < PROGRAMS; program++)
+        if (programs[program].differs > 0) {
+            printf("%s %s at %zu words", before, programs[program].name, others[program]);
+            before = " and";
+        }
     printf("\n");
     return 1;
 }

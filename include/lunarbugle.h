@@ -22,17 +22,18 @@
 extern "C" {
 #endif
 
-/* Stems the len bytes at word in their own place: the stem stands first and spaces fill the rest. Returns the number, plus 256
- * times the stem's length (0 for a refusal). */
+/* Stems the len bytes at word in their own place: the stem stands first and spaces fill the rest. A word of one or two letters is
+ * its own stem. Returns the number, plus 256 times the stem's length (0 for a refusal). */
 uint64_t lunarbugle_stem(uint8_t *word, size_t len);
 
 /* The most bytes that lunarbugle_text takes. */
 #define LUNARBUGLE_TEXT_MOST 65536
 
 /* Stems every word of the len bytes at text where it stands. A word is a longest run of A to Z and a to z; every other byte
- * stays as it is. A word of 1 to 64 letters is made small and stemmed in its own place, as by lunarbugle_stem; a longer one stays
- * with its capitals. Returns the number, plus 256 times the words stemmed, plus 2^32 times the words left (0 and 0 for a
- * refusal). What is done at one word does not depend on the rest of the text: a longer text may be cut wherever no word is cut. */
+ * stays as it is. A word of 1 to 64 letters is made small and stemmed in its own place, as by lunarbugle_stem, so that S-type becomes
+ * s-type; a longer one stays with its capitals. Returns the number, plus 256 times the words stemmed, plus 2^32 times the words
+ * left (0 and 0 for a refusal). What is done at one word does not depend on the rest of the text: a longer text may be cut wherever
+ * no word is cut. */
 uint64_t lunarbugle_text(uint8_t *text, size_t len);
 
 #ifdef __cplusplus

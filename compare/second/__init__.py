@@ -1,4 +1,4 @@
-"""The second program: words, texts, sheets and tables, written from document 01 alone.
+"""The second program: words, texts, sheets and tables, written from documents 01 and 02 alone.
 
 It shares nothing with the crates, so that an answer both give is an answer of 01 and not of one
 author. It follows 01's sentences in their order and takes the plain way where there is one.

@@ -79,7 +79,7 @@ module _ (word : List ℕ) where
   abbrev after-2 : List ℕ
   after-2 = leaves group-2 (leaves group-1c after-1b)
 
-  -- what the groups that write leave fits in the place, and what all leave is what the list leaves
+  -- what the groups that write leave fits in the place, and what all leave is what reading the list leaves
   pub shipped-reads :
       ((length after-1b ≤ length word) × ((length (leaves group-1c after-1b) ≤ length word) × (length after-2 ≤ length word)))
       × (readWord shipped word ≡ done (leaves group-5b (leaves group-5a (leaves group-4 (leaves group-3 after-2)))))

@@ -2,7 +2,7 @@
 -- sheet gives the same word, or the same refusal, as reading the sheet itself group by group. The table made from the
 -- shipped sheet gives the stem of demand 2." Of walks it holds for all groups and all words; of what runs, for every sheet that was
 -- translated, and for the sheet and the table that are delivered. The last sentence "holds for words of 3 letters or more, as sheets
--- themselves are read as before" (W-201), and not for all words below.
+-- themselves are read as before" (W-201), and not for every shorter word.
 use Prim.Native.Nat.{ℕ, _*_, _≤_}
 use Prim.Native.String.{String}
 use mathlib.Core.Path.{_≡_, sym, ap, _∙_}
@@ -82,14 +82,15 @@ delivered-right = ap (rightTable shipped) (sym (append-nil (tableOf shipped))) �
 pub delivered-reads : (word : List ℕ) → runOutcome (sheetOf shipped) (tableOf shipped) word ≡ wordOutcome (readWord shipped) word
 delivered-reads word = run-reads (sheetOf shipped) (tableOf shipped) word shipped reads delivered-right
 
--- which is the stem, of words of 3 letters or more
+-- which from 3 letters on is the stem
 pub delivered-runs : (word : List ℕ) → 3 ≤ length word → runOutcome (sheetOf shipped) (tableOf shipped) word ≡ outcome word
 delivered-runs word many = delivered-reads word ∙ outcome-same (readWord shipped) (stem shipped) word (sym (stem-longer shipped word many))
 
--- and not of every word below: a run still leaves nothing of "s", and makes "us" "u"
+-- a run on a word gives its stem
 abbrev agrees : String → Type 0
 agrees word = runOutcome (sheetOf shipped) (tableOf shipped) (letters word) ≡ outcome (letters word)
 
+-- which it does not on every word below: it leaves nothing of "s", and makes "us" "u"
 pub delivered-differs : (agrees "s" → ⊥) × (agrees "us" → ⊥)
 delivered-differs =
     (λ same. short-differ .0 (sym (delivered-reads _) ∙ same), λ same. short-differ .1 (sym (delivered-reads _) ∙ same))

@@ -25,7 +25,7 @@ unfoldable pub samples : List Sample
 samples =
     sample "Feeds, hopping\n" "feed , hop    \n" 2 0
     ∷ sample "S-type" "s-type" 2 0
-    ∷ sample "US gallons" "us gallon " 2 0
+    ∷ sample "US gallon" "us gallon" 2 0
     ∷ sample "" "" 0 0
     ∷ sample
     "Aaaaaaaaaaaaaaaaaaaaaaaaaaaaaaaaaaaaaaaaaaaaaaaaaaaaaaaaaaaaaaaaa cats"

@@ -15,7 +15,7 @@ use Rattle.answers.specs.Answers.{judgementOf}
 use Rattle.words.proofs.stem.Statement.{statement}
 use Rattle.words.proofs.stem.Tie as tie
 
--- what is said of a word that stays is said of one or two letters
+-- what a word that stays is answered is the outcome of one or two letters
 stays : (word : List ℕ) {number value : ℕ} {after : List ℕ} → length word ≤ 2 → Gives (wordOutcome done word) number value after
     → Gives (outcome word) number value after
 stays word few gives = rw (outcome-same (stem shipped) done word (stem-short shipped word few)) gives
