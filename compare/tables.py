@@ -1,7 +1,6 @@
 """Sets of table runs for request 6: samples, runs over made sheets and over the shipped one."""
 
 import random
-import string
 
 import samples
 from probing import RUN
@@ -12,7 +11,7 @@ from second.tables import nodes_of
 from sets import Set
 from sheets import damaged, made_groups, made_letters
 from words import damaged as damaged_word
-from words import letter_runs, made_part, made_word, published, published_answer
+from words import SMALL, all_words, made_part, made_word, published, published_answer
 
 
 def sample_runs(_batch):
@@ -64,8 +63,7 @@ def shipped_runs(batch):
 def short_runs(_batch):
     """The shipped sheet and its table on every word of one or two letters, which W-201 leaves to the
     rules here."""
-    runs = [run for length in (1, 2) for run in letter_runs(string.ascii_lowercase, length)]
-    return [(RUN, SHIPPED_SHEET, SHIPPED_TABLE, run.encode()) for run in runs]
+    return [(RUN, SHIPPED_SHEET, SHIPPED_TABLE, word) for word in all_words(SMALL, 1, 2)]
 
 
 def vocabulary_runs(batch):

@@ -2,12 +2,13 @@
 words."""
 
 import random
-import string
 
 import samples
 from probing import NEXT, TEXT
 from sets import Set
-from words import letter_runs, made_part, made_word
+from words import SMALL, all_words, made_part, made_word
+
+CAPITALS = b"ABCDEFGHIJKLMNOPQRSTUVWXYZ"
 
 
 def sample_texts(_batch):
@@ -16,8 +17,7 @@ def sample_texts(_batch):
 
 def short_words(_batch):
     """Every word of one or two letters, small and large ones, between words that lose a letter."""
-    runs = [run for length in (1, 2) for run in letter_runs(string.ascii_letters, length)]
-    return [(TEXT, f"cats {run}-gas".encode()) for run in runs]
+    return [(TEXT, b"cats %b-gas" % word) for word in all_words(SMALL + CAPITALS, 1, 2)]
 
 
 # The neighbours of the letters are among them, and characters of two and three bytes.
@@ -49,7 +49,6 @@ def only(rng, alphabet, length):
     return bytes(rng.choice(alphabet) for _ in range(length))
 
 
-CAPITALS = b"ABCDEFGHIJKLMNOPQRSTUVWXYZ"
 OTHER_BYTES = bytes(byte for byte in range(256) if not bytes([byte]).isalpha())
 # Characters of one to four bytes in UTF-8, letters of other alphabets among them.
 CHARACTERS = "aegnst ESY'" + "éßñøÅÉ" + "αβγжΩ" + "—’鋼語" + "𝔞🚀"

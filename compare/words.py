@@ -2,7 +2,6 @@
 
 import itertools
 import random
-import string
 from functools import lru_cache
 from pathlib import Path
 
@@ -44,16 +43,17 @@ def published_answer(request):
     return 0, len(stem), stem.ljust(len(word))
 
 
-def letter_runs(letters, length):
-    """All that can be written with so many of these letters."""
-    return map("".join, itertools.product(letters, repeat=length))
+SMALL = b"abcdefghijklmnopqrstuvwxyz"
+
+
+def all_words(alphabet, *lengths):
+    """Every word of these lengths over these bytes."""
+    return [bytes(word) for length in lengths for word in itertools.product(alphabet, repeat=length)]
 
 
 def short_words(_batch):
     """Every word of no, one or two bytes, and every one of three small letters."""
-    words = [bytes(run) for length in range(3) for run in itertools.product(range(256), repeat=length)]
-    words += [run.encode() for run in letter_runs(string.ascii_lowercase, 3)]
-    return [(WORD, word) for word in words]
+    return [(WORD, word) for word in all_words(range(256), 0, 1, 2) + all_words(SMALL, 3)]
 
 
 # Made words: the letters on which rules turn are common, and endings are stacked.
