@@ -101,17 +101,33 @@ fits-done place word [] fits each = (word, refl, fits)
 fits-done place word (step ∷ later) fits each =
     rw (le-leb (length (step .word)) place (each .0)) (fits-done place (step .word) later (each .0) (each .1))
 
--- read by tame groups, and stemmed by them, every word is done, with a word that fits its place
-module _ (groups : List Group) (is-tame : tame groups ≡ true) (word : List ℕ) where
-  pub tame-reads : Done (length word) (readWord groups word)
-  unfolding readWord
-  tame-reads = fits-done (length word) word _ (omega arith) (tame-fits (length word) groups false word is-tame (omega arith))
+-- ## Every word
 
-  pub tame-stems : Done (length word) (stem groups word)
-  tame-stems =
+-- a word rule that answers every word with a stem no longer than the word
+abbrev pub Stems : (List ℕ → Reading) → Type 0
+Stems rule = (letters : List ℕ) → Done (length letters) (rule letters)
+
+-- and one that, where it answers with a stem, never gives more letters than it was given
+abbrev pub NeverLengthens : (List ℕ → Reading) → Type 0
+NeverLengthens rule = (letters left : List ℕ) → rule letters ≡ done left → length left ≤ length letters
+
+pub never-lengthens : (rule : List ℕ → Reading) → Stems rule → NeverLengthens rule
+never-lengthens rule stems letters left leaves =
+    let found = stems letters in
+    let same : found .0 ≡ left = cc in
+    omega (arith, found .2, ap length same)
+
+-- reading by tame groups is such a rule, and so is the stem by them
+module _ (groups : List Group) (is-tame : tame groups ≡ true) where
+  pub tame-reads : Stems (readWord groups)
+  unfolding readWord
+  tame-reads word = fits-done (length word) word _ (omega arith) (tame-fits (length word) groups false word is-tame (omega arith))
+
+  pub tame-stems : Stems (stem groups)
+  tame-stems word =
       by-test (leb (length word) 2)
       (λ few. (word, stem-short groups word (leb-true (length word) 2 few), omega arith))
-      (λ many. rw (stem-longer groups word (leb-false (length word) 2 many)) tame-reads)
+      (λ many. rw (stem-longer groups word (leb-false (length word) 2 many)) (tame-reads word))
 
 -- ## The shipped rules
 
@@ -120,19 +136,12 @@ unfolding tame every tame-rule shipped
 shipped-tame = refl
 
 -- what they leave of a word fits its place
-pub read-done : (word : List ℕ) → Done (length word) (readWord shipped word)
-read-done word = tame-reads shipped shipped-tame word
+pub read-done : Stems (readWord shipped)
+read-done = tame-reads shipped shipped-tame
 
 -- every word has a stem that fits its place: refusal 4 never comes of the shipped rules
-pub stem-done : (word : List ℕ) → Done (length word) (stem shipped word)
-stem-done word = tame-stems shipped shipped-tame word
-
--- a word rule that never gives more letters than it was given
-abbrev pub NeverLengthens : (List ℕ → Reading) → Type 0
-NeverLengthens rule = (letters left : List ℕ) → rule letters ≡ done left → length left ≤ length letters
+pub stem-done : Stems (stem shipped)
+stem-done = tame-stems shipped shipped-tame
 
 pub stem-never-lengthens : NeverLengthens (stem shipped)
-stem-never-lengthens letters left leaves =
-    let found = stem-done letters in
-    let same : found .0 ≡ left = cc in
-    omega (arith, found .2, ap length same)
+stem-never-lengthens = never-lengthens (stem shipped) stem-done

@@ -10,7 +10,7 @@ use lib.ListN.{length, take, drop, getD, length-map}
 use lib.Seq.{take-at, drop-at}
 use borrow.Author.Tests.{le-ltb}
 use Rattle.paper.specs.Groups.{Group, Reading, done}
-use Rattle.paper.specs.LengthLaws.{Done, NeverLengthens, stem-done}
+use Rattle.paper.specs.LengthLaws.{Stems, NeverLengthens, never-lengthens, stem-done}
 use Rattle.paper.specs.TestLaws.{by-test}
 use Rattle.paper.specs.Shipped.{shipped}
 use Rattle.paper.specs.Words.{placed, stem}
@@ -21,10 +21,6 @@ use Rattle.pieces.specs.LongestRuns.{IsWord}
 use Rattle.texts.specs.Texts.{Ran, stemmedTo, answered, ofWord, ofPiece, ofPieces, runText, Outcome, textOutcome}
 use Rattle.texts.specs.TextsLaws.{run-word, long-word, word-length, length-stays, others-stay}
 use Rattle.texts.specs.OutcomeLaws.{finished-within}
-
--- a word rule that answers every word with a stem no longer than the word
-abbrev pub Stems : (List ℕ → Reading) → Type 0
-Stems rule = (letters : List ℕ) → Done (length letters) (rule letters)
 
 -- the words of 1 to 64 letters, and those over 64
 unfoldable pub shortWords : List Piece → ℕ
@@ -62,11 +58,8 @@ pub record Rewritten (rule : List ℕ → Reading) (text : List ℕ) (o : Outcom
   pub left : o .left ≡ longWords (pieces text)
 
 module _ (rule : List ℕ → Reading) (always : Stems rule) where
-  pub never-lengthens : NeverLengthens rule
-  never-lengthens letters left leaves =
-      let found = always letters in
-      let same : found .0 ≡ left = cc in
-      omega (arith, found .2, ap length same)
+  never : NeverLengthens rule
+  never = never-lengthens rule always
 
   -- a word of 1 to 64 letters counts as stemmed, and its stem stands in its place
   short-word : (letters : List ℕ) → ltb 64 (length letters) ≡ false
@@ -100,11 +93,11 @@ module _ (rule : List ℕ → Reading) (always : Stems rule) where
       → placeOf front letters (runText rule text .text) ≡ ofWord rule letters .text
   there text front letters back cut =
       let ran = ap (runText rule) (cut .joined) ∙ run-word rule front letters back (cut .before) (cut .is-word) (cut .behind) in
-      let front-is = length-stays rule never-lengthens front in
+      let front-is = length-stays rule never front in
       rw (
         ran,
         drop-at (runText rule front .text) (ofWord rule letters .text ++ runText rule back .text) (length front) front-is,
-        take-at (ofWord rule letters .text) (runText rule back .text) (length letters) (word-length rule never-lengthens letters),
+        take-at (ofWord rule letters .text) (runText rule back .text) (length letters) (word-length rule never letters),
       )
 
   pub rewritten : (text : List ℕ) → length text ≤ 65536 → Rewritten rule text (textOutcome rule text)
@@ -113,7 +106,7 @@ module _ (rule : List ℕ → Reading) (always : Stems rule) where
       rw (finished-within rule text within)
       (record {
         number = refl;
-        length-stays = length-stays rule never-lengthens text;
+        length-stays = length-stays rule never text;
         word-stemmed = λ front letters back cut short.
             let found = always (map lowered letters) in
             let is = short-word letters (le-ltb 64 (length letters) short) in (
@@ -124,7 +117,7 @@ module _ (rule : List ℕ → Reading) (always : Stems rule) where
             );
         word-left = λ front letters back cut long.
             there text front letters back cut ∙ ap (λ (ran : Ran). ran .text) (long-word rule letters long);
-        others-stay = others-stay rule never-lengthens text;
+        others-stay = others-stay rule never text;
         stemmed = stemmed-are (pieces text);
         left = left-are (pieces text);
       })

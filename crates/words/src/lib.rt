@@ -1,4 +1,5 @@
-// The word stemmer: what is said of a word before it is read, the shipped rules read in its own place, and the spaces behind the stem.
+// The word stemmer: what is said of a word before it is read, the short words that stay, the shipped rules read in the place of the
+// others, and the spaces behind the stem.
 ghost use Rattle.paper.specs.Groups.{done};
 ghost use Rattle.paper.specs.Words.{wordOutcome, outcome, Gives};
 ghost use Rattle.answers.specs.Answers.{numberOf, valueOf};
