@@ -1,7 +1,7 @@
 """How a run of `probe` ends: at the end of the input, or with the byte 255 at a request that is cut
 short, unknown or over its bounds; and that a slow pipe gives what a file gives."""
 
-from probing import ENDED, NEXT, PROBE, TEXT, WORD
+from probing import ENDED, MAKE, NEXT, PROBE, TEXT, WORD
 from probing import coded_answer, coded_request, raw, slowly, through
 from sets import Result
 
@@ -22,6 +22,10 @@ BAD = {
     "a text of 70,001 bytes": coded_request((TEXT, b"a" * 70001)),
     "no place": coded_request((NEXT, b"cats", 0))[:-4],
     "a cut place": coded_request((NEXT, b"cats", 0))[:-1],
+    "lines of 16,385 bytes": coded_request((MAKE, b"\n" * 16385, b"")),
+    "a sheet of 16,385 bytes for lines": coded_request((MAKE, b"group\n", bytes(16385))),
+    "no sheet for lines": coded_request((MAKE, b"group\n", b""))[:-4],
+    "a cut sheet for lines": coded_request((MAKE, b"group\n", b"cats"))[:-1],
 }
 
 

@@ -1,8 +1,9 @@
-"""All six kinds of request at once, in one run of probe: what one request leaves behind must not show
-in the next."""
+"""All seven kinds of request at once, in one run of probe: what one request leaves behind must not
+show in the next."""
 
 import random
 
+import lines
 import sheets
 import tables
 import texts
@@ -20,6 +21,9 @@ MAKERS = [
     sheets.translations,
     tables.made_runs,
     tables.shipped_runs,
+    lines.well_formed_lines,
+    lines.damaged_lines,
+    lines.bounded_lines,
 ]
 EACH = 250  # requests of a maker in a batch
 

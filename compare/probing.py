@@ -18,7 +18,7 @@ HERE = Path(__file__).resolve().parent
 EMULATE = HERE.parent / "tools/emulate"
 PROBE = [EMULATE, HERE.parent / "target/bin/probe"]
 
-WORD, TEXT, NEXT, CHECK, TRANSLATE, RUN = range(1, 7)
+WORD, TEXT, NEXT, CHECK, TRANSLATE, RUN, MAKE = range(1, 8)
 ENDED = b"\xff"  # what probe writes at a request that is cut short, unknown or over its bounds
 
 BY_SECOND = {
@@ -28,6 +28,7 @@ BY_SECOND = {
     CHECK: second.check_sheet,
     TRANSLATE: second.translate_sheet,
     RUN: second.table_run,
+    MAKE: second.make_sheet,
 }
 
 

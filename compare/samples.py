@@ -1,10 +1,10 @@
-"""The samples of document 01, and the edges that its sentences name, as requests with the answers
-that 01 gives, as 02 amends it. The second program is held to them first; both programs are compared
-on them, and the fixed input of `probe` is made of them."""
+"""The samples of document 01, and the edges that its sentences and those of 02 name, as requests
+with the answers that 01 gives, as 02 amends it. The second program is held to them first; both
+programs are compared on them, and the fixed input of `probe` is made of them."""
 
 import struct
 
-from probing import CHECK, NEXT, RUN, TEXT, TRANSLATE, WORD
+from probing import CHECK, HERE, MAKE, NEXT, RUN, TEXT, TRANSLATE, WORD
 from second.sheets import END, GROUP, RULE, record, sheet_of
 from second.tables import nodes_of
 from second.words import SHIPPED
@@ -145,4 +145,132 @@ TABLES += [
     for word, _, left in told(SHORT)
 ]
 
-ALL = WORDS + TEXTS + SHEETS + TABLES
+# Lines
+
+PORTER = (HERE.parent / "examples/sheet/porter.rules").read_bytes()
+TWELVE = b"abcdefghijkl"
+
+
+def makes(lines, *records):
+    """Lines that make the sheet of these records and an end, lent as long as it is."""
+    sheet = b"".join(records) + CLOSE
+    return (MAKE, lines, b"\7" * len(sheet)), (0, len(sheet), sheet)
+
+
+def stops(number, lines, lent=b"\7" * 40):
+    """Lines that are refused at the line of this number."""
+    return (MAKE, lines, lent), (8, number, lent)
+
+
+RULE_LINES = {
+    b"none s -> e": rule(b"s", b"e"),
+    b"m>0 s -> e": rule(b"s", b"e", 1),
+    b"m>1 s -> e": rule(b"s", b"e", 2),
+    b"*v* s -> e": rule(b"s", b"e", 3),
+    b"m>1 and (*S or *T) s -> e": rule(b"s", b"e", 4),
+    b"*d and not (*L or *S or *Z) s -> e": rule(b"s", b"e", 5),
+    b"m=1 and *o s -> e": rule(b"s", b"e", 6),
+    b"m=1 and not *o s -> e": rule(b"s", b"e", 7),
+    b"m>1 and *d and *L s -> e": rule(b"s", b"e", 8),
+    b"*d and not (*L or *S or *Z) - -> single letter": rule(b"", b"", 5, 1),
+    b"m>1 and *d and *L - -> single letter": rule(b"", b"", 8, 1),
+    b"m>1 and *d and *L - -> single letter opens": rule(b"", b"", 8, 1, 1),
+    b"none - -> -": rule(b""),
+    b"none - -> - opens": rule(b"", opens=1),
+    b"none x -> opens": rule(b"x", b"opens"),
+    b"none x -> opens opens": rule(b"x", b"opens", opens=1),
+    b"none x -> yopens": rule(b"x", b"yopens"),
+    b"none opens -> -": rule(b"opens"),
+    b"none x -> single": rule(b"x", b"single"),
+    b"none - -> letter opens": rule(b"", b"letter", opens=1),
+    b"none single -> letter": rule(b"single", b"letter"),
+    b"none none -> none": rule(b"none", b"none"),
+    b"none group -> opened opens": rule(b"group", b"opened", opens=1),
+    b"m>1 and -> x": rule(b"and", b"x", 2),
+    b"m>1 and (*S or *T) or -> and": rule(b"or", b"and", 4),
+    b"m=1 and not *o not -> -": rule(b"not", b"", 7),
+    b"none abcdefghijkl -> -": rule(TWELVE),
+    b"none - -> abcdefghijkl": rule(b"", TWELVE),
+}
+
+
+def rows(*lines):
+    """The lines of each row, which a bar divides."""
+    return b"|".join(lines).split(b"|")
+
+
+OTHER_LINES = rows(  # not of the form
+    # spaces, and bytes that look like them
+    b"none  x -> y|none x  -> y|none x ->  y|none x -> y  opens|none x -> y | none x -> y|| |\0",
+    b"none  -> y|none x -> |none x ->  opens|none\tx -> y|none x\t-> y|none x ->\ty|none x -> y\r",
+    b"group\r|group\topened|group | group|group  opened|group opened ",
+    # letters
+    b"none X -> y|none x -> Y|none x1 -> y|none x -> 1|none it's -> y|none \xe9 -> y|none x -> y\0",
+    b"none ` -> y|none { -> y|none x -> `|none x -> {|none x -> y{",
+    b"none -x -> y|none -- -> y|none x -> y-|none - - -> y|none x -> y z|none x -> - -",
+    # the arrow and what stands behind it
+    b"none x->y|none x-> y|none x ->y|none x - > y|none x => y|none x y|none x ->|none -> y",
+    b"none x \xe2\x86\x92 y|none x -> y open|none x -> y opened|none x -> y opens opens",
+    b"m>1 and *d and *L - -> single  letter|m>1 and *d and *L - -> single letters",
+    b"m>1 and *d and *L - -> letter single|m>1 and *d and *L -> single letter",
+    # conditions
+    b"none|None x -> y|x -> y|0 x -> y|m>2 x -> y|m > 0 x -> y|m=1 x -> y|*o x -> y|`*v*` x -> y",
+    b"m>1 and|m>1 and |m>1 and x -> y|m>1 and *d x -> y|m>1 and (*S or *T) -> y|m=1 and -> y",
+    b"m>1 and (*S or *T)x -> y|m>1 and (*T or *S) x -> y|m>1 and *L and *d x -> y|m=1 and not -> y",
+    b"m=1 and not x -> y|*d and not -> y|*d and not (*L or *S) x -> y|m>0 and x -> y",
+    # groups
+    b"groups|Group|group open|group opens|groupopened|opened|group opened opened|\xef\xbb\xbfgroup",
+)
+
+FAULTY_LINES = rows(  # of the form, but 01 calls the record faulty
+    *(b"none %b -> y|none x -> %b" % ((b"z" * length,) * 2) for length in (13, 255, 256, 268)),
+    b"none - -> single letter|m>1 and (*S or *T) - -> single letter|none x -> single letter",
+    b"m>1 and *d and *L l -> single letter|*d and not (*L or *S or *Z) x -> single letter opens",
+)
+
+DROP_S = b"group\nnone s -> -\n"
+MOST_LINES = b"group\n" * 16 + b"*v* %b -> %b opens\n" % (TWELVE, TWELVE) * 128
+MOST = ALWAYS * 16 + rule(TWELVE, TWELVE, 3, opens=1) * 128
+
+LINES = [
+    makes(b""),
+    makes(b"group\n", ALWAYS),
+    makes(b"group\ngroup opened\n", ALWAYS, IF_OPENED),
+    makes(b"group\nm>0 eed -> ee\n*v* ed -> - opens\n", SHEET_EED[:-4]),
+    makes(PORTER, SHIPPED_SHEET[:-4]),
+    *(makes(b"group\n%b\n" % line, ALWAYS, written) for line, written in RULE_LINES.items()),
+    *(stops(2, b"group\n%b\ngroup\n" % line) for line in OTHER_LINES + FAULTY_LINES),
+    # the lent sheet: just long enough, longer, one short
+    ((MAKE, DROP_S, b"\7" * 19), (0, 19, SHEET_19)),
+    ((MAKE, DROP_S, b"\7" * 22), (0, 19, SHEET_19 + b"\7" * 3)),
+    ((MAKE, DROP_S, b"\7" * 18), (9, 0, b"\7" * 18)),
+    ((MAKE, DROP_S, b""), (9, 0, b"")),
+    ((MAKE, b"", b"\7" * 3), (9, 0, b"\7" * 3)),
+    ((MAKE, b"", b""), (9, 0, b"")),
+    # 8 comes before 9, and the first line that is refused is named
+    stops(3, DROP_S + b"x\n", b""),
+    stops(2, b"group\nnone  x -> y\nnone x  -> y\n"),
+    stops(72, PORTER + b"none x -> y \n"),
+    stops(1, PORTER.replace(b"\n", b"\r\n")),
+    # a last line without its line feed, and one with two
+    stops(1, b"group"),
+    stops(1, b"\n"),
+    stops(2, b"group\ngroup opened"),
+    stops(2, DROP_S[:-1]),
+    stops(3, DROP_S + b"\n"),
+    stops(71, PORTER[:-1]),
+    # what the lines before decide
+    stops(1, b"none s -> -\n"),
+    stops(1, b"none s -> -\ngroup\n"),
+    stops(1, b"group opened\n"),
+    stops(1, b"group opened\ngroup\n"),
+    makes(MOST_LINES, MOST),
+    ((MAKE, MOST_LINES, b"\7" * 4195), (9, 0, b"\7" * 4195)),
+    stops(17, b"group\n" * 17),
+    stops(145, MOST_LINES + b"group\n"),
+    stops(145, MOST_LINES + b"none s -> -\n"),
+    stops(130, b"group\n" + b"none s -> -\n" * 129),
+    stops(131, (b"group\n" + b"none s -> -\n" * 64) * 2 + b"none s -> -\n"),
+]
+
+ALL = WORDS + TEXTS + SHEETS + TABLES + LINES

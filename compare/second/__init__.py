@@ -1,16 +1,25 @@
-"""The second program: words, texts, sheets and tables, written from documents 01 and 02 alone.
+"""The second program: words, texts, sheets, tables, lines, written from documents 01 and 02 alone.
 
 It shares nothing with the crates, so that an answer both give is an answer of 01 and not of one
 author. It follows 01's sentences in their order and takes the plain way where there is one.
 
-Words, texts and sheets are bytes; a table is a list of numbers. There is one function for each
-request of the program `probe`. Each gives the number returned, the values, and what was lent as
-it is afterwards, in this order.
+Words, texts, sheets and lines are bytes; a table is a list of numbers. There is one function for
+each request of the program `probe`. Each gives the number returned, the values, and what was lent
+as it is afterwards, in this order.
 """
 
+from second.lines import make_sheet
 from second.sheets import check_sheet
 from second.tables import table_run, translate_sheet
 from second.texts import next_word, text_run
 from second.words import word_stem
 
-__all__ = ["check_sheet", "next_word", "table_run", "text_run", "translate_sheet", "word_stem"]
+__all__ = [
+    "check_sheet",
+    "make_sheet",
+    "next_word",
+    "table_run",
+    "text_run",
+    "translate_sheet",
+    "word_stem",
+]

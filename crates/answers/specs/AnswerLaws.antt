@@ -6,13 +6,15 @@ use lib.Dec.{eqb}
 use Rattle.paper.specs.Settled.{Told, settled}
 use Rattle.paper.specs.Words.{Judgement, taken, turnedDown}
 use Rattle.answers.specs.Answers.{numberOf, valueOf, judgementOf, Check, tells, numberOfTranslated, valueOfTranslated}
-use Rattle.answers.specs.Answers.{numberOfRan, valueOfRan}
+use Rattle.answers.specs.Answers.{numberOfMade, valueOfMade, numberOfRan, valueOfRan}
 use Rattle.answers.specs.declared.Answer.{Answer}
 use Rattle.answers.specs.declared.Answer.the-variants.{Done, WrongLength, OtherByte, Outgrown}
 use Rattle.answers.specs.declared.Judged.{Judged}
 use Rattle.answers.specs.declared.Judged.the-variants.{Taken, Refused as Turned}
 use Rattle.answers.specs.declared.Checked.{Checked}
 use Rattle.answers.specs.declared.Checked.the-variants.{Accepted, Refused as Faulty}
+use Rattle.answers.specs.declared.Made.{Made}
+use Rattle.answers.specs.declared.Made.the-variants.{Written, Line, Short as TooShort}
 use Rattle.answers.specs.declared.Translated.{Translated}
 use Rattle.answers.specs.declared.Translated.the-variants.{Nodes, Refused as Untranslated, Short}
 use Rattle.answers.specs.declared.Ran.{Ran}
@@ -58,6 +60,20 @@ checked-is (Faulty place) = refl
 
 pub checked-one : {check : Check} (one other : Checked) → tells one ≡ check → tells other ≡ check → one ≡ other
 checked-one one other is also = sym (checked-is one) ∙ ap checkedOf (settled is also) ∙ checked-is other
+
+-- ## A sheet made from lines
+
+unfoldable pub madeOf : ℕ → ℕ → Made
+madeOf number value = cond (eqb number 0) (Written value) (cond (eqb number 8) (Line value) TooShort)
+
+pub made-is : (answer : Made) → madeOf (numberOfMade answer) (valueOfMade answer) ≡ answer
+unfolding madeOf
+made-is (Written length) = refl
+made-is (Line line) = refl
+made-is TooShort = refl
+
+abbrev pub makings : Told Made
+makings = record { number = numberOfMade; value = valueOfMade; back = madeOf; back-is = made-is }
 
 -- ## A translation, and a table run
 

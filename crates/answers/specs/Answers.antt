@@ -9,6 +9,8 @@ use Rattle.answers.specs.declared.TextRun.{TextRun}
 use Rattle.answers.specs.declared.TextRun.the-variants.{Done as Finished, TooLong}
 use Rattle.answers.specs.declared.Checked.{Checked}
 use Rattle.answers.specs.declared.Checked.the-variants.{Accepted, Refused as Faulty}
+use Rattle.answers.specs.declared.Made.{Made}
+use Rattle.answers.specs.declared.Made.the-variants.{Written, Line, Short as TooShort}
 use Rattle.answers.specs.declared.Translated.{Translated}
 use Rattle.answers.specs.declared.Translated.the-variants.{Nodes, Refused as Untranslated, Short}
 use Rattle.answers.specs.declared.Ran.{Ran}
@@ -69,6 +71,20 @@ faultyAt place = record { number = 3; value = place; groups = 0 }
 abbrev pub tells : Checked → Check
 tells (Accepted nodes groups) = counting nodes groups
 tells (Faulty place) = faultyAt place
+
+-- ## A sheet made from lines
+
+-- document 02, W-202: "0 returns the length written"; "8, the first line not of this form or whose record 01 calls faulty .., with its
+-- line number from 1; 9, exactly when the lent sheet is shorter than the sheet made", which returns 0
+abbrev pub numberOfMade : Made → ℕ
+numberOfMade (Written length) = 0
+numberOfMade (Line line) = 8
+numberOfMade TooShort = 9
+
+abbrev pub valueOfMade : Made → ℕ
+valueOfMade (Written length) = length
+valueOfMade (Line line) = line
+valueOfMade TooShort = 0
 
 -- ## A translation
 

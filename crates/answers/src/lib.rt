@@ -2,6 +2,7 @@
 ghost use mathlib.Core.Path.{_≡_};
 ghost use Rattle.paper.specs.Words.{judged, judgedBy};
 ghost use Rattle.answers.specs.Answers.{numberOf, valueOf, numberOfText, stemmedOf, leftOf};
+ghost use Rattle.answers.specs.Answers.{numberOfMade, valueOfMade};
 ghost use Rattle.answers.specs.Answers.{tells, numberOfTranslated, valueOfTranslated, numberOfRan, valueOfRan, judgementOf};
 
 // What a call on a word answers.
@@ -30,6 +31,16 @@ pub enum Checked {
     Accepted { nodes: usize, groups: usize },
     // 3: the place where the first faulty record starts.
     Refused(usize),
+}
+
+// What making a sheet from lines answers.
+pub enum Made {
+    // 0: the length of the sheet that was written.
+    Written(usize),
+    // 8: the number, from 1, of the first line that is not of the form or whose record is faulty.
+    Line(usize),
+    // 9: the lent sheet is too short.
+    Short,
 }
 
 // What a translation answers.
@@ -148,6 +159,26 @@ pub fn of_check(answer: Checked) -> Reply
         Checked::Refused(place) => Reply {
             number: 3,
             value: place,
+        },
+    }
+}
+
+pub fn of_making(answer: Made) -> Reply
+    ensures { λ r. ⌜ r .number ≡ numberOfMade answer ⌝ }
+    ensures { λ r. ⌜ r .value ≡ valueOfMade answer ⌝ }
+{
+    match answer {
+        Made::Written(length) => Reply {
+            number: 0,
+            value: length,
+        },
+        Made::Line(line) => Reply {
+            number: 8,
+            value: line,
+        },
+        Made::Short => Reply {
+            number: 9,
+            value: 0,
         },
     }
 }

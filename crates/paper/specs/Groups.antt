@@ -23,6 +23,10 @@ abbrev pub numberOfAction : Action → ℕ
 numberOfAction (replace s2) = 0
 numberOfAction single-letter = 1
 
+-- the action of a number, with these letters for S2
+abbrev pub actionOf : ℕ → List ℕ → Action
+actionOf number s2 = cond (eqb number 0) (replace s2) single-letter
+
 -- "A group is a list of rules: condition, ending S1, replacement S2." A rule may open the next group.
 pub record Rule : Type 0 where
   pub condition : ℕ
@@ -37,6 +41,10 @@ pub data Gate : Type 0 where
 abbrev pub numberOfGate : Gate → ℕ
 numberOfGate always = 0
 numberOfGate if-opened = 1
+
+-- the gate of a number
+abbrev pub gateOf : ℕ → Gate
+gateOf number = cond (eqb number 0) always if-opened
 
 pub record Group : Type 0 where
   pub gate : Gate

@@ -10,7 +10,7 @@ use lib.ListN.{length, take, drop, getD, replicate}
 use lib.Seq.{drop-cons, length-take-le}
 use borrow.Author.Tests.{eq-eqb, ne-eqb, lt-ltb, le-ltb, ltb-false, le-leb, lt-leb}
 use Rattle.paper.specs.Groups.{Group, Reading, done, outgrown}
-use Rattle.paper.specs.TestLaws.{by-test, or-right, neither-right}
+use Rattle.paper.specs.TestLaws.{by-test, and-parts, or-right, neither-right}
 use Rattle.paper.specs.Words.{readWord, stem, placed, wrongLength, small, allSmall, firstOther, Gives}
 use Rattle.paper.specs.Words.{taken, turnedDown, judged, judgedBy, readingOutcome, judgedOutcome, wordOutcome}
 
@@ -27,6 +27,28 @@ pub other-later :
     → firstOther (drop i word) ≡ suc (firstOther (drop (suc i) word))
 unfolding firstOther
 other-later word i h e = rw (drop-cons word i 0 h, e)
+
+-- before it all are from a to z
+pub first-small : (word : List ℕ) → allSmall (take (firstOther word) word) ≡ true
+unfolding allSmall firstOther
+first-small [] = refl
+first-small (x ∷ word) = by-test (small x) (λ is. rw (is, is, first-small word)) (λ is-not. rw is-not refl)
+
+pub first-inside : (word : List ℕ) → firstOther word ≤ length word
+unfolding firstOther
+first-inside [] = omega arith
+first-inside (x ∷ word) =
+    let later = first-inside word in
+    by-test (small x) (λ is. rw is (omega arith)) (λ is-not. rw is-not (omega arith))
+
+-- small letters, and a byte behind them that is none
+pub first-behind : (letters : List ℕ) (other : ℕ) (more : List ℕ) → allSmall letters ≡ true → small other ≡ false
+    → firstOther (letters ++ (other ∷ more)) ≡ length letters
+unfolding allSmall firstOther
+first-behind [] other more all outside = rw outside refl
+first-behind (x ∷ letters) other more all outside =
+    let both = and-parts (small x) (allSmall letters) all in
+    rw (both .0, first-behind letters other more (both .1) outside)
 
 -- the first byte outside a to z stands in the word exactly if not every byte is from a to z
 pub other-inside : (word : List ℕ) → ltb (firstOther word) (length word) ≡ not (allSmall word)

@@ -1,2 +1,3 @@
--- What the functions on a word's place leave in it.
+-- What the functions on a word's place leave in it; then what several of them leave, one behind the other.
 pub mod Put
+pub mod Written

@@ -4,6 +4,7 @@
 // A request is one byte and its arguments; each kind of request has a file of its own. At a request
 // that is cut short, has another first byte or an argument over its bound, the program writes the
 // byte 255 and ends.
+mod lines;
 mod sheet;
 mod table;
 mod text;
@@ -22,6 +23,7 @@ fn answered(kind: u8) -> bool {
         4 => sheet::answered(),
         5 => table::answered_translation(),
         6 => table::answered_run(),
+        7 => lines::answered(),
         _ => false,
     }
 }

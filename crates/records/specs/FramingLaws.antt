@@ -86,7 +86,7 @@ module _ (rest : List ℕ) where
     length-body = let a = long in let b = fitting in simp (length-take, length-drop) (omega arith)
 
 -- a number below 256 in two bytes
-two-small : (n : ℕ) → n < 256 → two n ≡ n ∷ 0 ∷ []
+pub two-small : (n : ℕ) → n < 256 → two n ≡ n ∷ 0 ∷ []
 unfolding two
 two-small n small =
     let low : n % 256 ≡ n = omega arith in

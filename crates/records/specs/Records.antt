@@ -6,7 +6,7 @@ use mathlib.Core.List.{List}
 use lib.Dec.{eqb, ltb}
 use lib.ListN.{length, getD, take, drop}
 use Rattle.paper.specs.Conditions.{forSingle, highest}
-use Rattle.paper.specs.Groups.{replace, single-letter, Rule, Gate, always, if-opened}
+use Rattle.paper.specs.Groups.{actionOf, Rule, Gate, gateOf}
 use Rattle.paper.specs.Words.{allSmall}
 use Rattle.records.specs.Framing.{number, bodyLength, kind, body, after, cut}
 
@@ -16,7 +16,7 @@ unfoldable pub gateNumber : List ℕ → ℕ
 gateNumber body = number 0 body
 
 unfoldable pub gate : List ℕ → Gate
-gate body = cond (eqb (gateNumber body) 0) always if-opened
+gate body = gateOf (gateNumber body)
 
 -- "a group whose body is not 2 bytes, whose gate is above 1"
 unfoldable pub faultyGroup : List ℕ → Bool
@@ -48,7 +48,7 @@ rule body =
     record {
       condition = condition body;
       ending = ending body;
-      action = cond (eqb (actionNumber body) 0) (replace (replacement body)) single-letter;
+      action = actionOf (actionNumber body) (replacement body);
       opens = eqb (opensNumber body) 1;
     }
 

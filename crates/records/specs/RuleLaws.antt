@@ -10,7 +10,7 @@ use lib.ListN.{length, drop, length-take, length-drop, take-append-drop}
 use lib.Seq.{drop-drop}
 use borrow.Author.Tests.{ltb-false, le-leb, eqb-true, eq-eqb, not-false}
 use Rattle.paper.specs.Conditions.{forSingle, highest}
-use Rattle.paper.specs.Groups.{Action, replace, single-letter, written, numberOfAction, Rule}
+use Rattle.paper.specs.Groups.{written, numberOfAction, actionOf, Rule}
 use Rattle.paper.specs.ListLaws.{empty}
 use Rattle.paper.specs.TestLaws.{none-of-three, none-of-six}
 use Rattle.paper.specs.Words.{allSmall}
@@ -70,21 +70,17 @@ numbers-written (a ∷ b ∷ []) long = absurd (omega arith)
 numbers-written (a ∷ b ∷ c ∷ []) long = absurd (omega arith)
 numbers-written (a ∷ b ∷ c ∷ d ∷ l) long = refl
 
-opens-written : (o : ℕ) → o ≤ 1 → cond (eqb o 1) 1 0 ≡ o
+pub opens-written : (o : ℕ) → o ≤ 1 → cond (eqb o 1) 1 0 ≡ o
 opens-written zero low = refl
 opens-written (suc zero) low = refl
 opens-written (suc (suc o)) low = absurd (omega arith)
 
--- the action by its number
-abbrev actionOf : ℕ → List ℕ → Action
-actionOf a s2 = cond (eqb a 0) (replace s2) single-letter
-
-action-written : (a : ℕ) (s2 : List ℕ) → a ≤ 1 → numberOfAction (actionOf a s2) ≡ a
+pub action-written : (a : ℕ) (s2 : List ℕ) → a ≤ 1 → numberOfAction (actionOf a s2) ≡ a
 action-written zero s2 low = refl
 action-written (suc zero) s2 low = refl
 action-written (suc (suc a)) s2 low = absurd (omega arith)
 
-replacement-written : (a : ℕ) (s2 : List ℕ) → a ≤ 1 → (a ≡ 1 → length s2 ≡ 0) → written (actionOf a s2) ≡ s2
+pub replacement-written : (a : ℕ) (s2 : List ℕ) → a ≤ 1 → (a ≡ 1 → length s2 ≡ 0) → written (actionOf a s2) ≡ s2
 replacement-written zero s2 low none = refl
 replacement-written (suc zero) s2 low none = sym (empty s2 (none refl))
 replacement-written (suc (suc a)) s2 low none = absurd (omega arith)

@@ -1,9 +1,9 @@
 -- The bodies of rules, written: the body of a rule within 01's bounds is not faulty, and reads as that rule.
 use Prim.Native.Nat.{_+_, _≤_}
 use mathlib.Core.Path.{_≡_, refl, sym, _∙_}
-use mathlib.Core.Bool.{Bool, true, false, not, cond, _&&_, _||_}
+use mathlib.Core.Bool.{Bool, true, false, not, cond, _&&_, _||_, or-false}
 use native.Mathlib.Omega.{arith}
-use lib.Dec.{eqb, leb}
+use lib.Dec.{eqb, leb, ltb}
 use lib.ListN.{length, length-append}
 use lib.Seq.{drop-drop, take-append-seam, drop-append-seam}
 use borrow.Author.Tests.{le-ltb, leb-true}
@@ -72,7 +72,7 @@ unfolding allowedAction atMost12
 short-replacement one (replace s2) fits = leb-true _ _ (and-left (leb (length s2) 12) (allSmall s2) fits)
 short-replacement one single-letter fits = omega arith
 
-replacement-letters : (one : Rule) (action : Action) → allowedAction one action ≡ true → allSmall (written action) ≡ true
+pub replacement-letters : (one : Rule) (action : Action) → allowedAction one action ≡ true → allSmall (written action) ≡ true
 unfolding allowedAction atMost12 allSmall
 replacement-letters one (replace s2) fits = and-right (leb (length s2) 12) (allSmall s2) fits
 replacement-letters one single-letter fits = refl
@@ -85,32 +85,45 @@ opens-low : (opens : Bool) → cond opens 1 0 ≤ 1
 opens-low true = omega arith
 opens-low false = omega arith
 
-sound-numbers : (one : Rule) → allowed one ≡ true → faultyNumbers (ruleBody one) ≡ false
-unfolding faultyNumbers ruleBody
-sound-numbers one all =
-    let is = bounds one all in
-    let n = length (one .ending) in
-    let long = length-append (one .ending) (written (one .action)) in
-    simp (
-      le-ltb (length (ruleBody one)) 4 (omega arith),
-      le-ltb highest (one .condition) (is .low-condition),
-      le-ltb 1 (numberOfAction (one .action)) (action-low (one .action)),
-      le-ltb 1 (cond (one .opens) 1 0) (opens-low (one .opens)),
-      le-ltb 12 n (is .short-ending),
-      le-ltb (length (ruleBody one)) (4 + n) (omega arith),
-    )
+-- ## When the body of a rule is faulty
+-- a single letter is asked for with another condition, or with letters
+abbrev pub unfitAction : Rule → Bool
+unfitAction one =
+    eqb (numberOfAction (one .action)) 1
+    && (not (forSingle (one .condition))
+    || not (eqb (length (one .ending)) 0)
+    || not (eqb (length (written (one .action))) 0))
 
-sound-letters : (one : Rule) → allowed one ≡ true → faultyLetters (ruleBody one) ≡ false
-unfolding faultyLetters outside
-sound-letters one all =
-    let is = bounds one all in
-    simp (
-      ending-read one,
-      replacement-read one,
-      le-ltb 12 (length (written (one .action))) (short-replacement one (one .action) (is .fit-action)),
-      is .ending-letters,
-      replacement-letters one (one .action) (is .fit-action),
-    )
+-- of one of 01's conditions and small letters
+module _ (one : Rule) (low-condition : one .condition ≤ highest) (ending-small : allSmall (one .ending) ≡ true)
+    (replacement-small : allSmall (written (one .action)) ≡ true) where
+  fault-numbers : faultyNumbers (ruleBody one) ≡ ltb 12 (length (one .ending))
+  unfolding faultyNumbers ruleBody
+  fault-numbers =
+      let n = length (one .ending) in
+      let long = length-append (one .ending) (written (one .action)) in
+      simp (
+        le-ltb (length (ruleBody one)) 4 (omega arith),
+        le-ltb highest (one .condition) low-condition,
+        le-ltb 1 (numberOfAction (one .action)) (action-low (one .action)),
+        le-ltb 1 (cond (one .opens) 1 0) (opens-low (one .opens)),
+        le-ltb (length (ruleBody one)) (4 + n) (omega arith),
+        or-false,
+      )
+
+  fault-letters : faultyLetters (ruleBody one) ≡ ltb 12 (length (written (one .action)))
+  unfolding faultyLetters outside
+  fault-letters = simp (ending-read one, replacement-read one, ending-small, replacement-small, or-false)
+
+  fault-action : faultyAction (ruleBody one) ≡ unfitAction one
+  unfolding faultyAction ruleBody
+  fault-action = rw (ending-read one, replacement-read one)
+
+  -- only the lengths can be, and a single letter
+  pub written-fault : faultyRule (ruleBody one)
+      ≡ ltb 12 (length (one .ending)) || ltb 12 (length (written (one .action))) || unfitAction one
+  unfolding faultyRule
+  written-fault = rw (fault-numbers, fault-letters, fault-action)
 
 fits-action : (one : Rule) (action : Action) → allowedAction one action ≡ true
     → (eqb (numberOfAction action) 1
@@ -125,10 +138,12 @@ fits-action one single-letter fits =
     let ending-is = and-right (forSingle (one .condition)) (eqb (length (one .ending)) 0) fits in
     simp (condition-is, ending-is)
 
-sound-action : (one : Rule) → allowed one ≡ true → faultyAction (ruleBody one) ≡ false
-unfolding faultyAction ruleBody
-sound-action one all = rw (ending-read one, replacement-read one) (fits-action one (one .action) (bounds one all .fit-action))
-
 pub rule-sound : (one : Rule) → allowed one ≡ true → faultyRule (ruleBody one) ≡ false
-unfolding faultyRule
-rule-sound one all = simp (sound-numbers one all, sound-letters one all, sound-action one all)
+rule-sound one all =
+    let is = bounds one all in
+    written-fault one (is .low-condition) (is .ending-letters) (replacement-letters one (one .action) (is .fit-action))
+    ∙ rw (
+      le-ltb 12 (length (one .ending)) (is .short-ending),
+      le-ltb 12 (length (written (one .action))) (short-replacement one (one .action) (is .fit-action)),
+      fits-action one (one .action) (is .fit-action),
+    )

@@ -1,18 +1,17 @@
 -- "at most 1,552": the node count of a bounded list of groups.
 use Prim.Native.Nat.{ℕ, suc, _+_, _*_, _≤_}
 use mathlib.Core.Path.{_≡_, refl}
-use mathlib.Core.Bool.{Bool, true, false, cond, _&&_}
+use mathlib.Core.Bool.{Bool, true, false, cond}
 use mathlib.Core.List.{List, [], _∷_}
 use native.Mathlib.Omega.{arith}
-use lib.Dec.{leb}
 use lib.ListN.{length, length-append}
-use borrow.Author.Tests.{leb-true}
 use Rattle.paper.specs.Groups.{Rule, Group}
 use Rattle.paper.specs.Nodes.{tails, tailsOf, member, distinct, nodeCount}
 use Rattle.paper.specs.TestLaws.{and-left, and-right}
 use Rattle.records.specs.RecordBytes.{allowed}
 use Rattle.records.specs.WrittenRules.{bounds}
-use Rattle.sheets.specs.SheetBytes.{allAllowed, groupsAllowed, ruleCount, firstAlways, bounded}
+use Rattle.sheets.specs.SheetBytes.{allAllowed, groupsAllowed, ruleCount, bounded}
+use Rattle.sheets.specs.ReadBack.{within}
 
 one-more : (b : Bool) (n k l : ℕ) → k ≤ n → l ≤ n → cond b k (suc l) ≤ suc n
 one-more true n k l first second = omega arith
@@ -48,15 +47,6 @@ nodes-at-most (group ∷ groups) all =
     omega (arith, distinct-at-most [] (tailsOf rules))
 
 pub at-most-1552 : (groups : List Group) → bounded groups ≡ true → nodeCount groups ≤ 1552
-unfolding bounded
 at-most-1552 groups all =
-    let few = leb (length groups) 16 in
-    let first = firstAlways groups in
-    let fewer = leb (ruleCount groups) 128 in
-    let three = and-left (few && first && fewer) (groupsAllowed groups) all in
-    omega (
-      arith,
-      leb-true (length groups) 16 (and-left few first (and-left (few && first) fewer three)),
-      leb-true (ruleCount groups) 128 (and-right (few && first) fewer three),
-      nodes-at-most groups (and-right (few && first && fewer) (groupsAllowed groups) all),
-    )
+    let is = within groups all in
+    omega (arith, is .at-most-16, is .at-most-128, nodes-at-most groups (is .each))

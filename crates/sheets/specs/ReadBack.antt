@@ -8,10 +8,10 @@ use lib.Dec.{leb, eqb·suc-zero}
 use lib.ListN.{length, length-append}
 use borrow.Author.Tests.{leb-true, lt-leb, eqb-true}
 use Rattle.paper.specs.Groups.{Rule, Gate, numberOfGate, Group}
-use Rattle.paper.specs.TestLaws.{and-left, and-right}
+use Rattle.paper.specs.TestLaws.{and-left, and-right, and-parts}
 use Rattle.records.specs.Framing.{number, bodyLength, recordLength, after, two, recordOf}
 use Rattle.records.specs.FramingLaws.{kind-read, body-read, after-read, record-length-read, whole-read, some-bytes}
-use Rattle.records.specs.Records.{faultyEnd}
+use Rattle.records.specs.Records.{faultyRule, faultyEnd}
 use Rattle.records.specs.RecordBytes.{gateBody, ruleBody, allowed}
 use Rattle.records.specs.RecordLaws.{GroupHere, RuleHere, EndHere}
 use Rattle.records.specs.GateLaws.{gate-read, gate-number, gate-sound}
@@ -24,64 +24,66 @@ use Rattle.sheets.specs.SheetSteps.{group-step, rule-step, end-step}
 unfoldable pub restBytes : List Rule → List Group → List ℕ
 restBytes rules groups = rulesBytes rules ++ (groupsBytes groups ++ recordOf 3 [])
 
-misplaced-not : (groups : ℕ) (one : Gate) → groups < 16 → (groups ≡ 0 → numberOfGate one ≡ 0)
+-- ## Written records
+module _ (one : Rule) (rest : List ℕ) where
+  pub rule-here : faultyRule (ruleBody one) ≡ false → RuleHere (recordOf 2 (ruleBody one) ++ rest)
+  rule-here sound =
+      record {
+        whole = whole-read 2 (ruleBody one) rest;
+        is-rule = kind-read 2 (ruleBody one) rest;
+        sound = rw (body-read 2 (ruleBody one) rest) sound;
+      }
+
+pub group-here : (one : Gate) (rest : List ℕ) → GroupHere (recordOf 1 (gateBody one) ++ rest)
+group-here one rest =
+    record {
+      whole = whole-read 1 (gateBody one) rest;
+      is-group = kind-read 1 (gateBody one) rest;
+      sound = rw (body-read 1 (gateBody one) rest) (gate-sound one);
+    }
+
+pub end-here : EndHere (recordOf 3 [])
+unfolding recordOf two faultyEnd bodyLength number after recordLength
+end-here = record { whole = whole-read 3 [] []; is-end = kind-read 3 [] []; sound = refl }
+
+pub misplaced-not : (groups : ℕ) (one : Gate) → groups < 16 → (groups ≡ 0 → numberOfGate one ≡ 0)
     → misplacedGroup groups (gateBody one) ≡ false
 unfolding misplacedGroup
 misplaced-not zero one few first = rw (gate-number one, first refl) refl
 misplaced-not (suc groups) one few first = simp (eqb·suc-zero groups, lt-leb 16 (suc groups) few)
 
-rule-placed : (groups rules : ℕ) → 0 < groups → rules < 128 → misplacedRule groups rules ≡ false
+pub rule-placed : (groups rules : ℕ) → 0 < groups → rules < 128 → misplacedRule groups rules ≡ false
 unfolding misplacedRule
 rule-placed zero rules some few = absurd (omega arith)
 rule-placed (suc groups) rules some few = simp (eqb·suc-zero groups, lt-leb 128 rules few)
 
 -- ## A record at the start of the rest
 module _ (more groups rules place : ℕ) (rest : List ℕ) where
-  read-rule : (one : Rule) → allowed one ≡ true → 0 < groups → rules < 128
+  pub read-rule : (one : Rule) → faultyRule (ruleBody one) ≡ false → misplacedRule groups rules ≡ false
       → readRest (suc more) groups rules place (recordOf 2 (ruleBody one) ++ rest)
       ≡ ruleThen one (readRest more groups (suc rules) (place + length (recordOf 2 (ruleBody one))) rest)
-  read-rule one all some few =
+  read-rule one sound placed =
       rw (
-        rule-step more groups rules place here (rule-placed groups rules some few),
+        rule-step more groups rules place (rule-here one rest sound) placed,
         body-read 2 (ruleBody one) rest,
         after-read 2 (ruleBody one) rest,
         record-length-read 2 (ruleBody one) rest,
         rule-read one,
       )
       refl
-    where
-      here : RuleHere (recordOf 2 (ruleBody one) ++ rest)
-      here =
-          record {
-            whole = whole-read 2 (ruleBody one) rest;
-            is-rule = kind-read 2 (ruleBody one) rest;
-            sound = rw (body-read 2 (ruleBody one) rest) (rule-sound one all);
-          }
 
-  read-group : (one : Gate) → groups < 16 → (groups ≡ 0 → numberOfGate one ≡ 0)
+  pub read-group : (one : Gate) → misplacedGroup groups (gateBody one) ≡ false
       → readRest (suc more) groups rules place (recordOf 1 (gateBody one) ++ rest)
       ≡ groupThen one (readRest more (suc groups) rules (place + length (recordOf 1 (gateBody one))) rest)
-  read-group one few first =
+  read-group one placed =
       rw (
-        group-step more groups rules place here (rw (body-read 1 (gateBody one) rest) (misplaced-not groups one few first)),
+        group-step more groups rules place (group-here one rest) (rw (body-read 1 (gateBody one) rest) placed),
         body-read 1 (gateBody one) rest,
         after-read 1 (gateBody one) rest,
         record-length-read 1 (gateBody one) rest,
         gate-read one,
       )
       refl
-    where
-      here : GroupHere (recordOf 1 (gateBody one) ++ rest)
-      here =
-          record {
-            whole = whole-read 1 (gateBody one) rest;
-            is-group = kind-read 1 (gateBody one) rest;
-            sound = rw (body-read 1 (gateBody one) rest) (gate-sound one);
-          }
-
-end-here : EndHere (recordOf 3 [])
-unfolding recordOf two faultyEnd bodyLength number after recordLength
-end-here = record { whole = whole-read 3 [] []; is-end = kind-read 3 [] []; sound = refl }
 
 -- ## All of it
 -- groups from here on are read
@@ -117,8 +119,9 @@ rules-first groups read (one ∷ list) (suc more) before rules place positive fe
     let long = ap length joined in
     rw (
       joined,
-      read-rule more before rules place (restBytes list groups) one (and-left (allowed one) (allAllowed list) all) positive
-          (omega arith),
+      read-rule more before rules place (restBytes list groups) one
+          (rule-sound one (and-left (allowed one) (allAllowed list) all))
+          (rule-placed before rules positive (omega arith)),
       rules-first groups read list more before (suc rules) (place + length (recordOf 2 (ruleBody one))) positive few (omega arith)
           (and-right (allowed one) (allAllowed list) all)
           each
@@ -145,8 +148,8 @@ groups-read (one ∷ groups) (suc more) before rules place few fewer each first 
     let long = ap length (group-bytes one groups) in
     rw (
       group-bytes one groups,
-      read-group more before rules place (restBytes (one .rules) groups) (one .gate) (omega arith)
-          (λ none. eqb-true (numberOfGate (one .gate)) 0 (first none)),
+      read-group more before rules place (restBytes (one .rules) groups) (one .gate)
+          (misplaced-not before (one .gate) (omega arith) (λ none. eqb-true (numberOfGate (one .gate)) 0 (first none))),
       rules-first groups (groups-read groups) (one .rules) more (suc before) rules (place + length (recordOf 1 (gateBody (one .gate))))
           (omega arith)
           (omega arith)
@@ -157,19 +160,37 @@ groups-read (one ∷ groups) (suc more) before rules place few fewer each first 
     )
     refl
 
-pub read-back : (groups : List Group) → bounded groups ≡ true → readSheet (sheetOf groups) ≡ accepted groups
-unfolding bounded readSheet sheetOf
-read-back groups all =
+-- what is known of a list within the bounds
+pub record Within (groups : List Group) : Type 0 where
+  pub at-most-16 : length groups ≤ 16
+  pub always-first : firstAlways groups ≡ true
+  pub at-most-128 : ruleCount groups ≤ 128
+  pub each : groupsAllowed groups ≡ true
+
+pub within : (groups : List Group) → bounded groups ≡ true → Within groups
+unfolding bounded
+within groups all =
     let few = leb (length groups) 16 in
     let first = firstAlways groups in
     let fewer = leb (ruleCount groups) 128 in
-    let each = groupsAllowed groups in
-    let three = and-left (few && first && fewer) each all in
-    let two = and-left (few && first) fewer three in
+    let three = and-parts (few && first && fewer) (groupsAllowed groups) all in
+    let two = and-parts (few && first) fewer (three .0) in
+    let one = and-parts few first (two .0) in
+    record {
+      at-most-16 = leb-true (length groups) 16 (one .0);
+      always-first = one .1;
+      at-most-128 = leb-true (ruleCount groups) 128 (two .1);
+      each = three .1;
+    }
+
+pub read-back : (groups : List Group) → bounded groups ≡ true → readSheet (sheetOf groups) ≡ accepted groups
+unfolding readSheet sheetOf
+read-back groups all =
+    let is = within groups all in
     ap whole
     (groups-read groups (length (groupsBytes groups ++ recordOf 3 [])) 0 0 0
-    (let h = leb-true (length groups) 16 (and-left few first two) in omega arith)
-    (let h = leb-true (ruleCount groups) 128 (and-right (few && first) fewer three) in omega arith)
-    (and-right (few && first && fewer) each all)
-    (λ none. and-right few first two)
+    (omega (arith, is .at-most-16))
+    (omega (arith, is .at-most-128))
+    (is .each)
+    (λ none. is .always-first)
     (omega arith))

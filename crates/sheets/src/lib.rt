@@ -10,14 +10,14 @@ use records::reader::draw;
 use tails::longest_shared;
 
 // A group is the first and runs only if opened, or is the 17th.
-fn misplaced_group(groups: usize, gate: usize) -> bool
+pub fn misplaced_group(groups: usize, gate: usize) -> bool
     ensures { λ r. ⌜ r ≡ (eqb groups 0 && eqb gate 1) || leb 16 groups ⌝ }
 {
     ((groups == 0) & (gate == 1)) | (groups >= 16)
 }
 
 // A rule stands before any group, or is the 129th.
-fn misplaced_rule(groups: usize, rules: usize) -> bool
+pub fn misplaced_rule(groups: usize, rules: usize) -> bool
     ensures { λ r. ⌜ r ≡ eqb groups 0 || leb 128 rules ⌝ }
 {
     (groups == 0) | (rules >= 128)

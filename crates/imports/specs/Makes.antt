@@ -1,0 +1,68 @@
+-- Document 02, W-202: the sheet that lines name, which lines are taken, and what a call of the importer gives. Nothing here reads a text.
+use Prim.Native.Nat.{ℕ, suc, _≤_, _<_}
+use mathlib.Core.Bool.{Bool, not, _&&_}
+use mathlib.Core.List.{List, [], _∷_}
+use lib.ListN.{length}
+use Rattle.paper.specs.Groups.{Rule, Group}
+use Rattle.paper.specs.Words.{Outcome, refused}
+use Rattle.records.specs.Framing.{recordOf}
+use Rattle.records.specs.RecordBytes.{gateBody, ruleBody}
+use Rattle.sheets.specs.Sheets.{faulty}
+use Rattle.sheets.specs.SheetBytes.{sheetOf}
+use Rattle.places.specs.Written.{writtenTo}
+use Rattle.printed.specs.Printed.{TakenTo}
+use Rattle.lines.specs.Lines.{Line, group, rule, print, form}
+
+-- ## The sheet that lines name
+-- the rules up to the next group's line
+unfoldable pub rulesOf : List Line → List Rule
+rulesOf [] = []
+rulesOf (group gate ∷ lines) = []
+rulesOf (rule one ∷ lines) = one ∷ rulesOf lines
+
+-- a group for each group's line, with the rules up to the next
+unfoldable pub groupsOf : List Line → List Group
+groupsOf [] = []
+groupsOf (group gate ∷ lines) = record { gate = gate; rules = rulesOf lines } ∷ groupsOf lines
+groupsOf (rule one ∷ lines) = groupsOf lines
+
+-- "the end record is added"
+unfoldable pub sheetMade : List Line → List ℕ
+sheetMade lines = sheetOf (groupsOf lines)
+
+-- ## Which lines are taken
+-- a line's record
+unfoldable pub recordBytes : Line → List ℕ
+recordBytes (group gate) = recordOf 1 (gateBody gate)
+recordBytes (rule one) = recordOf 2 (ruleBody one)
+
+-- how many groups and rules these lines name
+unfoldable pub groupLines : List Line → ℕ
+groupLines [] = 0
+groupLines (group gate ∷ lines) = suc (groupLines lines)
+groupLines (rule one ∷ lines) = groupLines lines
+
+unfoldable pub ruleLines : List Line → ℕ
+ruleLines [] = 0
+ruleLines (group gate ∷ lines) = ruleLines lines
+ruleLines (rule one ∷ lines) = suc (ruleLines lines)
+
+-- "8, the first line not of this form or whose record 01 calls faulty": a line is taken, after those before it, if it is neither
+unfoldable pub taken : List Line → Line → Bool
+taken before line = form line && not (faulty (groupLines before) (ruleLines before) (recordBytes line))
+
+-- ## A call
+-- what a call on a text and a lent sheet gives: the number, the value, and what the sheet is afterwards
+pub data Makes (text sheet : List ℕ) : Outcome → Type 0 where
+  -- "8 .. with its line number from 1": the lines before it are taken, and the text goes on with no line that is
+  at-fault : (lines : List Line) (rest : List ℕ) → TakenTo print taken text lines rest → 0 < length rest
+      → Makes text sheet (refused 8 (suc (length lines)) sheet)
+  -- "9, exactly when the lent sheet is shorter than the sheet made, after 8"
+  too-short : (lines : List Line) → TakenTo print taken text lines [] → length sheet < length (sheetMade lines)
+      → Makes text sheet (refused 9 0 sheet)
+  -- "0 returns the length written, bytes beyond it stay"
+  made : (lines : List Line) → TakenTo print taken text lines [] → length (sheetMade lines) ≤ length sheet
+      → Makes text sheet (writtenTo sheet (sheetMade lines))
+
+abbrev pub MakesTo : List ℕ → List ℕ → ℕ → ℕ → List ℕ → Type 0
+MakesTo text sheet number value after = Makes text sheet (record { number = number; value = value; place = after })
