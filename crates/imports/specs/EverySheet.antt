@@ -19,11 +19,11 @@ use Rattle.sheets.specs.ReadBack.{misplaced-not, rule-placed, within}
 use Rattle.sheets.specs.WriteBack.{write-back}
 use Rattle.sheets.specs.ShippedSheet.{size, within-bounds}
 use Rattle.places.specs.Written.{writtenTo}
-use Rattle.printed.specs.Printed.{textOf, allTaken, TakenTo}
+use Rattle.printed.specs.Printed.{textOf, allTaken}
 use Rattle.printed.specs.PrintedLaws.{at-end}
 use Rattle.lines.specs.Lines.{Line, group, rule, spellings, print, form}
 use Rattle.lines.specs.PrintedLines.{reads}
-use Rattle.imports.specs.Makes.{rulesOf, groupsOf, sheetMade, groupLines, ruleLines, taken, Makes, made}
+use Rattle.imports.specs.Makes.{rulesOf, groupsOf, sheetMade, groupLines, ruleLines, taken, WholeText, Makes, made}
 use Rattle.imports.specs.TakenLaws.{of-form, group-taken, rule-taken, groups-more, groups-stay, rules-more, rules-stay}
 
 -- ## The lines of groups
@@ -115,7 +115,7 @@ groups-taken (one ∷ groups) before few fewer each nine first =
 -- ## What follows
 -- the text of the lines of groups, and what it makes
 module _ (groups : List Group) (within-bounds : bounded groups ≡ true) (spelled : groupsSpelled groups ≡ true) where
-  all-lines : TakenTo print taken (textOf print (linesOf groups)) (linesOf groups) []
+  all-lines : WholeText (textOf print (linesOf groups)) (linesOf groups)
   unfolding groupLines ruleLines
   all-lines =
       let is = within groups within-bounds in

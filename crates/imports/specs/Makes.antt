@@ -1,5 +1,6 @@
 -- Document 02, W-202: the sheet that lines name, which lines are taken, and what a call of the importer gives. Nothing here reads a text.
 use Prim.Native.Nat.{ℕ, suc, _≤_, _<_}
+use mathlib.Core.Path.{_≡_}
 use mathlib.Core.Bool.{Bool, not, _&&_}
 use mathlib.Core.List.{List, [], _∷_}
 use lib.ListN.{length}
@@ -51,17 +52,28 @@ ruleLines (rule one ∷ lines) = suc (ruleLines lines)
 unfoldable pub taken : List Line → Line → Bool
 taken before line = form line && not (faulty (groupLines before) (ruleLines before) (recordBytes line))
 
+-- the text is these lines, and each of them is taken
+abbrev pub WholeText : List ℕ → List Line → Type 0
+WholeText text lines = TakenTo print taken text lines []
+
+-- the first line at fault has this number, from 1: the lines before it are taken, and the text goes on with no line that is
+pub record FirstAtFault (text : List ℕ) (number : ℕ) : Type 0 where
+  pub before : List Line
+  pub rest : List ℕ
+  pub to-it : TakenTo print taken text before rest
+  pub some-line : 0 < length rest
+  pub number-is : number ≡ suc (length before)
+
 -- ## A call
 -- what a call on a text and a lent sheet gives: the number, the value, and what the sheet is afterwards
 pub data Makes (text sheet : List ℕ) : Outcome → Type 0 where
-  -- "8 .. with its line number from 1": the lines before it are taken, and the text goes on with no line that is
-  at-fault : (lines : List Line) (rest : List ℕ) → TakenTo print taken text lines rest → 0 < length rest
-      → Makes text sheet (refused 8 (suc (length lines)) sheet)
+  -- "8 .. with its line number from 1"
+  at-fault : (line : ℕ) → FirstAtFault text line → Makes text sheet (refused 8 line sheet)
   -- "9, exactly when the lent sheet is shorter than the sheet made, after 8"
-  too-short : (lines : List Line) → TakenTo print taken text lines [] → length sheet < length (sheetMade lines)
+  too-short : (lines : List Line) → WholeText text lines → length sheet < length (sheetMade lines)
       → Makes text sheet (refused 9 0 sheet)
   -- "0 returns the length written, bytes beyond it stay"
-  made : (lines : List Line) → TakenTo print taken text lines [] → length (sheetMade lines) ≤ length sheet
+  made : (lines : List Line) → WholeText text lines → length (sheetMade lines) ≤ length sheet
       → Makes text sheet (writtenTo sheet (sheetMade lines))
 
 abbrev pub MakesTo : List ℕ → List ℕ → ℕ → ℕ → List ℕ → Type 0

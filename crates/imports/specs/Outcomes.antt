@@ -20,33 +20,37 @@ use Rattle.printed.specs.PrintedLaws.{allOf, feeds, feeds-lines, taken-one, tak
 use Rattle.lines.specs.Lines.{Line, print, form}
 use Rattle.lines.specs.LineFeeds.{no-feed}
 use Rattle.lines.specs.PrintedLines.{reads}
-use Rattle.imports.specs.Makes.{sheetMade, taken, Makes, at-fault, too-short, made, MakesTo}
+use Rattle.imports.specs.Makes.{sheetMade, taken, Makes, at-fault, too-short, made, WholeText, FirstAtFault, MakesTo}
 use Rattle.imports.specs.TakenLaws.{of-form}
 
 -- ## One outcome
-some-none : {rest : List ℕ} → 0 < length rest → rest ≡ [] → ⊥
-some-none some none = omega (arith, ap length none)
-
 -- the lines that are taken are one list
 same-lines : {text : List ℕ} {these those : List Line} {x y : List ℕ} → TakenTo print taken text these x
     → TakenTo print taken text those y → (these ≡ those) × (x ≡ y)
 same-lines one other = taken-one reads of-form one other
 
+-- a text has a line at fault, or is whole
+not-both : {text : List ℕ} {line : ℕ} {lines : List Line} → FirstAtFault text line → WholeText text lines → ⊥
+not-both first whole = omega (arith, first .some-line, ap length (same-lines (first .to-it) whole .1))
+
+same-size : {text : List ℕ} {these those : List Line} → WholeText text these → WholeText text those
+    → length (sheetMade these) ≡ length (sheetMade those)
+same-size one other = ap (λ (l : List Line). length (sheetMade l)) (same-lines one other .0)
+
 -- any two outcomes that a text and a lent sheet allow are equal
 pub makes-one : {text sheet : List ℕ} {one other : Outcome} → Makes text sheet one → Makes text sheet other → one ≡ other
-makes-one {sheet = sheet} (at-fault lines rest to some) (at-fault others more also there) =
-    ap (λ (l : List Line). refused 8 (suc (length l)) sheet) (same-lines to also .0)
-makes-one (at-fault lines rest to some) (too-short others also less) = absurd (some-none some (same-lines to also .1))
-makes-one (at-fault lines rest to some) (made others also fits) = absurd (some-none some (same-lines to also .1))
-makes-one (too-short lines to less) (at-fault others rest also some) = absurd (some-none some (same-lines also to .1))
-makes-one (too-short lines to less) (too-short others also there) = refl
-makes-one (too-short lines to less) (made others also fits) =
-    absurd (omega (arith, ap (λ (l : List Line). length (sheetMade l)) (same-lines to also .0)))
-makes-one (made lines to fits) (at-fault others rest also some) = absurd (some-none some (same-lines also to .1))
-makes-one (made lines to fits) (too-short others also less) =
-    absurd (omega (arith, ap (λ (l : List Line). length (sheetMade l)) (same-lines to also .0)))
-makes-one {sheet = sheet} (made lines to fits) (made others also there) =
-    ap (λ (l : List Line). writtenTo sheet (sheetMade l)) (same-lines to also .0)
+makes-one {sheet = sheet} (at-fault line first) (at-fault another also) =
+    let before = ap length (same-lines (first .to-it) (also .to-it) .0) in
+    ap (λ (n : ℕ). refused 8 n sheet) (omega (arith, first .number-is, also .number-is))
+makes-one (at-fault line first) (too-short lines whole less) = absurd (not-both first whole)
+makes-one (at-fault line first) (made lines whole fits) = absurd (not-both first whole)
+makes-one (too-short lines whole less) (at-fault line first) = absurd (not-both first whole)
+makes-one (too-short lines whole less) (too-short others also there) = refl
+makes-one (too-short lines whole less) (made others also fits) = absurd (omega (arith, same-size whole also))
+makes-one (made lines whole fits) (at-fault line first) = absurd (not-both first whole)
+makes-one (made lines whole fits) (too-short others also less) = absurd (omega (arith, same-size whole also))
+makes-one {sheet = sheet} (made lines whole fits) (made others also there) =
+    ap (λ (l : List Line). writtenTo sheet (sheetMade l)) (same-lines whole also .0)
 
 -- so the contract of the importer settles its answer and what the sheet is afterwards
 pub made-one : {text sheet after later : List ℕ} {one other : Made} → MakesTo text sheet (numberOfMade one) (valueOfMade one) after
@@ -64,53 +68,43 @@ makes-some text sheet = by (taken-some reads of-form text)
     by (lines, [], to) =
         by-test (ltb (length sheet) (length (sheetMade lines))) (λ less. (_, too-short lines to (ltb-true _ _ less)))
         (λ fits. (_, made lines to (ltb-false _ _ fits)))
-    by (lines, byte ∷ rest, to) = (_, at-fault lines (byte ∷ rest) to (omega arith))
+    by (lines, byte ∷ rest, to) = (
+      _,
+      at-fault (suc (length lines))
+          (record { before = lines; rest = byte ∷ rest; to-it = to; some-line = omega arith; number-is = refl }),
+    )
 
 -- ## When each number is given
--- the first line at fault has this number: the lines before it are taken, and it is not
-pub record FirstAtFault (text : List ℕ) (number : ℕ) : Type 0 where
-  pub before : List Line
-  pub rest : List ℕ
-  pub to-it : TakenTo print taken text before rest
-  pub some-line : 0 < length rest
-  pub number-is : number ≡ suc (length before)
-
--- the text is these lines, and all of them are taken
-pub WholeText : List ℕ → List Line → Type 0
-WholeText text lines = TakenTo print taken text lines []
-
 module _ {text sheet : List ℕ} {outcome : Outcome} where
   pub given-8 : Makes text sheet outcome → (number : ℕ) → ((outcome .number ≡ 8) × (outcome .value ≡ number)) ↔ FirstAtFault text number
   given-8 makes number = (there makes, back)
     where
       there : {o : Outcome} → Makes text sheet o → (o .number ≡ 8) × (o .value ≡ number) → FirstAtFault text number
-      there (at-fault lines rest to some) is =
-          record { before = lines; rest = rest; to-it = to; some-line = some; number-is = sym (is .1) }
-      there (too-short lines to less) is = absurd (omega (arith, is .0))
-      there (made lines to fits) is = absurd (omega (arith, is .0))
+      there (at-fault line first) is = rw (← is .1) first
+      there (too-short lines whole less) is = absurd (omega (arith, is .0))
+      there (made lines whole fits) is = absurd (omega (arith, is .0))
 
       back : FirstAtFault text number → (outcome .number ≡ 8) × (outcome .value ≡ number)
       back first =
-          let same = makes-one makes (at-fault (first .before) (first .rest) (first .to-it) (first .some-line)) in
-          (ap (λ (o : Outcome). o .number) same, ap (λ (o : Outcome). o .value) same ∙ sym (first .number-is))
+          let same = makes-one makes (at-fault number first) in
+          (ap (λ (o : Outcome). o .number) same, ap (λ (o : Outcome). o .value) same)
 
   pub given-9 : Makes text sheet outcome
       → (outcome .number ≡ 9) ↔ ((lines : List Line) × WholeText text lines × (length sheet < length (sheetMade lines)))
-  unfolding WholeText
   given-9 makes = (there makes, λ short. ap (λ (o : Outcome). o .number) (makes-one makes (too-short (short .0) (short .1) (short .2))))
     where
       there : {o : Outcome} → Makes text sheet o → o .number ≡ 9
-          → (lines : List Line) × TakenTo print taken text lines [] × (length sheet < length (sheetMade lines))
-      there (at-fault lines rest to some) is = absurd (omega arith)
-      there (too-short lines to less) is = (lines, to, less)
-      there (made lines to fits) is = absurd (omega arith)
+          → (lines : List Line) × WholeText text lines × (length sheet < length (sheetMade lines))
+      there (at-fault line first) is = absurd (omega arith)
+      there (too-short lines whole less) is = (lines, whole, less)
+      there (made lines whole fits) is = absurd (omega arith)
 
 -- a refused call changes nothing
 pub refused-unchanged : {text sheet : List ℕ} {outcome : Outcome} → Makes text sheet outcome → (outcome .number ≡ 0 → ⊥)
     → outcome .place ≡ sheet
-refused-unchanged (at-fault lines rest to some) not-done = refl
-refused-unchanged (too-short lines to less) not-done = refl
-refused-unchanged (made lines to fits) not-done = absurd (not-done refl)
+refused-unchanged (at-fault line first) not-done = refl
+refused-unchanged (too-short lines whole less) not-done = refl
+refused-unchanged (made lines whole fits) not-done = absurd (not-done refl)
 
 -- ## The number of a line, by line feeds
 forms : (before lines : List Line) → allTaken taken before lines ≡ true → allOf form lines ≡ true

@@ -27,8 +27,7 @@ use Rattle.lines.specs.PrintedLines.{reads}
 use Rattle.lines.specs.declared.Found.the-variants.{Group, Rule as RuleFound, Wrong}
 use Rattle.lines.specs.declared.RuleLine.{RuleLine}
 use Rattle.imports.specs.Makes as Makes
-use Rattle.imports.specs.Makes.{sheetMade, recordBytes, groupLines, ruleLines, taken, MakesTo}
-use Rattle.imports.specs.Outcomes.{FirstAtFault}
+use Rattle.imports.specs.Makes.{sheetMade, recordBytes, groupLines, ruleLines, taken, WholeText, FirstAtFault, MakesTo}
 use Rattle.imports.specs.MadeSheets.{made-records}
 use Rattle.imports.specs.RuleRecords.{short-parts, rule-size, group-bytes}
 use Rattle.imports.specs.TakenLaws.{of-form, group-taken, rule-taken, groups-more, groups-stay, rules-more, rules-stay, lines-counted}
@@ -39,7 +38,7 @@ use Rattle.imports.specs.declared.Passed.the-variants.{Sheet, Fault}
 -- ## What a pass leaves
 pub record SheetPassed (text lent : List ℕ) (size : ℕ) (after : List ℕ) : Type 0 where
   pub lines : List Line
-  pub whole : TakenTo print taken text lines []
+  pub whole : WholeText text lines
   pub size-is : size ≡ length (sheetMade lines)
   pub wrote : Wrote lent (sheetMade lines) after
 
@@ -219,7 +218,7 @@ module _ {text lent : List ℕ} {at groups rules size : ℕ} {sheet : List ℕ} 
 
 -- ## What a call gives
 pub fault-given : {text : List ℕ} {number : ℕ} (sheet : List ℕ) → FirstAtFault text number → MakesTo text sheet 8 number sheet
-fault-given sheet first = rw (first .number-is) (Makes.at-fault (first .before) (first .rest) (first .to-it) (first .some-line))
+fault-given {number = number} sheet first = Makes.at-fault number first
 
 module _ {text lent after : List ℕ} {size : ℕ} (sheet : List ℕ) (passed : SheetPassed text lent size after) where
   pub short-given : length sheet < size → MakesTo text sheet 9 0 sheet

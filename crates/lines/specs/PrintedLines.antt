@@ -18,7 +18,7 @@ use Rattle.lines.specs.Lines.{Line, group, rule, spellings, spelling, pa
 use Rattle.lines.specs.Reading.{startsWith, spelled, spelledIn, headIn, partIn, closeIn, closedAt, closedIn, unclosed}
 use Rattle.lines.specs.Reading.{afterArrow, afterCondition, foundIn, ruleOf, told, readLine}
 use Rattle.lines.specs.PartLaws.{starts-append, starts-otherwise, part-read}
-use Rattle.lines.specs.ReadingLaws.{sound}
+use Rattle.lines.specs.ReadingLaws.{so-many, sound}
 use Rattle.lines.specs.declared.Found.{Found}
 use Rattle.lines.specs.declared.Found.the-variants.{Rule as RuleFound}
 use Rattle.lines.specs.declared.RuleLine.{RuleLine}
@@ -36,9 +36,6 @@ letters-of : (word more : List ℕ) → take (length word) (part word ++ more) �
 unfolding part letters
 letters-of [] more = refl
 letters-of (x ∷ word) more = take-append-seam (x ∷ word) more
-
-so-many : (from count : ℕ) → from + count - from ≡ count
-so-many from count = omega arith
 
 between-is : (rest : List ℕ) (at : ℕ) (word more : List ℕ) → drop at rest ≡ part word ++ more
     → take (at + length word - at) (drop at rest) ≡ word

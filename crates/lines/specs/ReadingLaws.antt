@@ -113,7 +113,7 @@ record Begun (rest : List ℕ) (condition start middle from : ℕ) : Type 0 wher
   first-first : start ≤ middle
   first-inside : middle ≤ length rest
 
-so-many : (from count : ℕ) → from + count - from ≡ count
+pub so-many : (from count : ℕ) → from + count - from ≡ count
 so-many from count = omega arith
 
 regrouped : (c e arrow a : List ℕ) → (c ++ (e ++ arrow)) ++ a ≡ c ++ (e ++ (arrow ++ a))
