@@ -101,10 +101,11 @@ fn pass(text: &[u8], sheet: &mut [u8]) -> Passed
     let mut size = 0;
     while at < text.len() {
         let rest = &text[at..];
+        let number = groups + rules + 1;
         match line(rest) {
             Found::Group { gate, taken } => {
                 if misplaced_group(groups, gate) {
-                    return Passed::Fault(groups + rules + 1);
+                    return Passed::Fault(number);
                 }
                 size = put_group(sheet, size, gate);
                 groups += 1;
@@ -112,13 +113,13 @@ fn pass(text: &[u8], sheet: &mut [u8]) -> Passed
             }
             Found::Rule(rule) => {
                 if misplaced_rule(groups, rules) | faulty_body(rest, rule) {
-                    return Passed::Fault(groups + rules + 1);
+                    return Passed::Fault(number);
                 }
                 size = put_rule(sheet, size, rest, rule);
                 rules += 1;
                 at += rule.taken;
             }
-            Found::Wrong => return Passed::Fault(groups + rules + 1),
+            Found::Wrong => return Passed::Fault(number),
         }
     }
     Passed::Sheet(put_end(sheet, size))

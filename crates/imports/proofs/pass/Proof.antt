@@ -176,9 +176,8 @@ returns-4 c =
 pub pass-spec : {M : Type 1} → statement M
 pass-spec =
     tie.close
-    (tie.spec Inv-loop μ-loop loop-holds (λ c. search needs) (λ c. search needs) (λ c. search needs) (λ c κs. search needs)
-    (λ c. search needs) (λ c κs. search needs) (λ c. search needs) (λ c. search needs) (λ c. search needs) returns put-group-requires
+    (tie.spec Inv-loop μ-loop loop-holds (λ c. search needs) (λ c. search needs) (λ c. search needs) (λ c. search needs)
+    (λ c. search needs) (λ c κs. search needs) (λ c. search needs) (λ c κs. search needs) (λ c. search needs) returns put-group-requires
     (λ c. search needs) add-at loop-less loop-again (λ c. search needs) (λ c κs. search needs) faulty-body-requires (λ c. search needs)
-    (λ c. search needs) (λ c. search needs) returns-2 put-rule-requires (λ c. search needs) add-at-2 loop-less-2 loop-again-2
-    (λ c. search needs) (λ c. search needs) (λ c. search needs) (λ c. search needs) returns-3 (λ c κs. search needs) (λ c. search needs)
-    returns-4)
+    returns-2 put-rule-requires (λ c. search needs) add-at-2 loop-less-2 loop-again-2 (λ c. search needs) (λ c. search needs) returns-3
+    (λ c κs. search needs) (λ c. search needs) returns-4)
