@@ -1,4 +1,4 @@
-"""The inputs that the wrong versions name, as a reader writes them:
+r"""The inputs that the wrong versions name, as a reader writes them:
 
     word cats                                  also "a{", as bytes are written, and "a" * 65
     text "Feeds, hopping"
@@ -8,6 +8,7 @@
     translate SHEET into 8 numbers             each of the lent numbers is 7
     run SHEET on cats                          with the table that the sheet makes,
     run SHEET with the table 0 1 0 0 on cats   or with another
+    lines "group\nm>0 s -> -\n" into 19 bytes  each of the lent bytes is 7
     call numbers::pair(1, 2)                   a function itself; `on the room "cats"` lends it bytes of that name
 """
 
@@ -21,7 +22,7 @@ from pathlib import Path
 ROOT = Path(__file__).resolve().parent.parent
 sys.path.insert(0, str(ROOT / "compare"))
 
-from probing import CHECK, NEXT, RUN, TEXT, TRANSLATE, WORD
+from probing import CHECK, MAKE, NEXT, RUN, TEXT, TRANSLATE, WORD
 from second.sheets import END, GROUP, RULE, Faulty, read_sheet, record
 from second.tables import nodes_of
 
@@ -78,6 +79,7 @@ REQUESTS = [
     ("sheet(?: (.*))?", lambda sheet: (CHECK, sheet_of(sheet or ""))),
     (r"translate (.*) into (\d+) numbers", lambda sheet, count: (TRANSLATE, sheet_of(sheet), [7] * int(count))),
     (rf"run (.*?)(?: with the table ([\d ]+))? on ({BYTES})", run_request),
+    (rf"lines ({BYTES}) into (\d+) bytes", lambda lines, count: (MAKE, bytes_of(lines), b"\7" * int(count))),
 ]
 
 
