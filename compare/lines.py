@@ -195,10 +195,12 @@ TRIED += [(b"group\n", line + b"\n") for line in list(samples.RULE_LINES)[:14]]
 
 
 def every_byte(batch):
-    """Each byte of a line left out, every byte in its place, and every byte put in."""
+    """Each byte of a line left out, and every byte in its place; and between each two a byte put in,
+    in the shorter lines every one."""
     before, line = TRIED[batch]
+    put_in = BYTES if len(line) <= 13 else NEAR_BYTES
     texts = [line[:at] + byte + line[at + 1 :] for at in range(len(line)) for byte in [b"", *BYTES]]
-    texts += [line[:at] + byte + line[at:] for at in range(len(line) + 1) for byte in BYTES]
+    texts += [line[:at] + byte + line[at:] for at in range(len(line) + 1) for byte in put_in]
     return [(MAKE, before + text, b"\7" * 50) for text in texts]
 
 
