@@ -1,5 +1,5 @@
--- The reader of one line, on the list of bytes that begins with it: what the code of `lines` answers. No statement rests on it:
--- `PrintedLines` shows that it finds a line exactly where one is printed.
+-- The reader of one line, on the list of bytes that begins with it: what the code of `lines` answers, so that the contract of `line`
+-- cites it. What a call of the importer gives does not: `PrintedLines` shows that it finds a line exactly where one is printed.
 use Prim.Native.Nat.{ℕ, zero, suc, _+_, _-_}
 use mathlib.Core.Bool.{Bool, true, false, cond, _&&_}
 use mathlib.Core.List.{List, [], _∷_, _++_}
