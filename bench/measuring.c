@@ -1,14 +1,18 @@
-/* What the two hosts share: the words of a file, and rounds with their times. */
+/* What the hosts share: the words of a file, and rounds with their times. */
 
 #include "measuring.h"
 
 #include <stdio.h>
 #include <stdlib.h>
+#include <string.h>
 #include <time.h>
 
 uint8_t words[MOST_BYTES];
 size_t starts[MOST_WORDS + 1];
 size_t word_count;
+
+static uint8_t space[MOST_BYTES]; /* a copy of the words, for a program to stem in */
+static volatile size_t checksum; /* uses what a round computes, so that no call is left out */
 
 static void read_words(const char *path)
 {
@@ -36,6 +40,29 @@ size_t begin(int count, char **arguments)
     read_words(arguments[1]);
     size_t rounds = strtoul(arguments[2], NULL, 10);
     return rounds < 1 || rounds > MOST_ROUNDS ? MOST_ROUNDS : rounds;
+}
+
+static struct stem in_space(stemmer program, size_t word)
+{
+    return program(space + starts[word], starts[word + 1] - starts[word]);
+}
+
+struct stem stem_of(stemmer program, size_t word)
+{
+    memcpy(space + starts[word], words + starts[word], starts[word + 1] - starts[word]);
+    return in_space(program, word);
+}
+
+double round_of_words(stemmer program)
+{
+    size_t letters = 0;
+    memcpy(space, words, sizeof words);
+    double began = now();
+    for (size_t word = 0; word < word_count; word++)
+        letters += in_space(program, word).length;
+    double ended = now();
+    checksum += letters;
+    return (ended - began) / word_count;
 }
 
 double now(void)

@@ -1,4 +1,4 @@
-/* What the two hosts share: the words of a file, and rounds with their times. */
+/* What the hosts share: the words of a file, and rounds with their times. */
 #ifndef MEASURING_H
 #define MEASURING_H
 
@@ -16,6 +16,19 @@ extern size_t word_count;
 /* Takes the arguments FILE ROUNDS: reads the words of the file, one on each line, and returns the
    number of rounds. */
 size_t begin(int count, char **arguments);
+
+/* A program: stems a word where it stands, or elsewhere; where the stem is, and its length. */
+struct stem {
+    const uint8_t *letters;
+    size_t length;
+};
+typedef struct stem (*stemmer)(uint8_t *word, size_t length);
+
+/* The stem of a word of the file, by its number from 0. The word is stemmed in a copy, which the next call may change. */
+struct stem stem_of(stemmer program, size_t word);
+
+/* Nanoseconds a word in a round of a program, in which it stems every word once. */
+double round_of_words(stemmer program);
 
 /* Nanoseconds of this process on a processor: what it waits for one does not count. */
 double now(void);

@@ -19,15 +19,6 @@
 static struct sb_stemmer *porter;
 #endif
 
-static uint8_t space[MOST_BYTES]; /* a copy of the words, for a program to stem in */
-static volatile size_t checksum; /* uses what a round computes, so that no call is left out */
-
-/* A program: stems a word where it stands, or elsewhere; where the stem is, and its length. */
-struct stem {
-    const uint8_t *letters;
-    size_t length;
-};
-
 static struct stem by_lunarbugle(uint8_t *word, size_t length)
 {
     return (struct stem){word, lunarbugle_stem(word, length) >> 8};
@@ -60,7 +51,7 @@ static struct stem by_porters(uint8_t *word, size_t length)
 
 static const struct program {
     const char *name;
-    struct stem (*stem)(uint8_t *word, size_t length);
+    stemmer stem;
     size_t differs; /* the longest word that may have another stem */
 } programs[] = {
     {"plain C -O2", by_plain, 0},
@@ -81,11 +72,6 @@ static const struct program {
 #define UNIT 0
 #endif
 
-static struct stem stem_of(size_t program, size_t word)
-{
-    return programs[program].stem(space + starts[word], starts[word + 1] - starts[word]);
-}
-
 /* All programs give the same stems, but where they may differ, which is counted. */
 static int agree(void)
 {
@@ -95,8 +81,7 @@ static int agree(void)
         size_t length = 0;
         for (size_t program = 0; program < PROGRAMS; program++) {
             size_t letters = starts[word + 1] - starts[word];
-            memcpy(space + starts[word], words + starts[word], letters);
-            struct stem stem = stem_of(program, word);
+            struct stem stem = stem_of(programs[program].stem, word);
             if (program == 0) {
                 length = stem.length;
                 memcpy(first, stem.letters, length);
@@ -122,19 +107,6 @@ static int agree(void)
     return 1;
 }
 
-/* Nanoseconds a word in one round of a program. */
-static double round_of(size_t program)
-{
-    size_t letters = 0;
-    memcpy(space, words, sizeof words);
-    double began = now();
-    for (size_t word = 0; word < word_count; word++)
-        letters += stem_of(program, word).length;
-    double ended = now();
-    checksum += letters;
-    return (ended - began) / word_count;
-}
-
 int main(int count, char **arguments)
 {
     static double times[PROGRAMS][MOST_ROUNDS];
@@ -150,7 +122,7 @@ int main(int count, char **arguments)
         return 1;
     for (size_t round = 0; round < rounds; round++)
         for (size_t program = 0; program < PROGRAMS; program++)
-            times[program][round] = round_of(program);
+            times[program][round] = round_of_words(programs[program].stem);
     for (size_t program = 0; program < PROGRAMS; program++)
         sort_times(times[program], rounds);
     for (size_t program = 0; program < PROGRAMS; program++) {

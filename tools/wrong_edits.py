@@ -13,6 +13,7 @@ HEADER = "| wrong version | what is wrong | input | right answer | wrong answer 
 
 STATEMENT = "The statement is changed: "  # how the first line begins where no code is changed
 NO_INPUT = "no input: "  # how the input begins where none shows the edit, and then why
+INDEXES = "specs/Indexes.antt"  # of blocks: a computed test says whether they are right
 
 
 @dataclass
@@ -72,8 +73,9 @@ def edited(edit, file, text):
 def faults_of(edit):
     """What its file lacks, or has and should not have."""
     files = [file for file, _, _ in edit.changes]
-    # a proof may be fitted to the changed code, so that it is refused at the fact that is wrong
-    in_code = any(file.startswith("src/") for file in files) and not any(file.startswith("specs/") for file in files)
+    # a proof, or an index that code is held to, may be fitted to the changed code, so that it is refused at the fact that is wrong
+    of_specs = [file for file in files if file.startswith("specs/") and file != INDEXES]
+    in_code = any(file.startswith("src/") for file in files) and not of_specs
     if edit.of_statement and edit.shown:
         return ["it changes a statement, and no code that an input could show"]
     if not edit.of_statement and not in_code:

@@ -119,6 +119,7 @@ def written(kind):
     return {
         "": "",
         "bool": "output::byte(if result { 1 } else { 0 });",
+        "u8": "output::byte(result);",
         "usize": "output::number(result);",
         "u64": "output::number((result % 4294967296) as usize); output::number((result / 4294967296) as usize);",
         "&[u8]": "output::bytes(result);",
@@ -160,7 +161,7 @@ fn main() {{
 def values_of(call, coded):
     """What the program of a call wrote: its result and the room."""
     kind = result_of(call)
-    size = {"": 0, "bool": 1, "usize": 4, "u64": 8, "Ran": 5, "Run": 5}.get(kind, len(coded))
+    size = {"": 0, "bool": 1, "u8": 1, "usize": 4, "u64": 8, "Ran": 5, "Run": 5}.get(kind, len(coded))
     result, room = coded[:size], coded[size:]
     if len(result) < size:
         return [coded]
@@ -172,7 +173,7 @@ def values_of(call, coded):
         values = [int.from_bytes(result[:4], "little"), "true" if result[4] else "false"]
     elif kind == "bool":
         values = ["true" if result[0] else "false"]
-    elif kind in ("usize", "u64"):
+    elif kind in ("u8", "usize", "u64"):
         values = [int.from_bytes(result, "little")]
     else:
         values = [result] if kind else []

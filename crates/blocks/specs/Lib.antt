@@ -1,3 +1,5 @@
--- What the contracts of `blocks` cite beside the definitions of `paper`, and what a block tells of a word.
+-- What an index of a group is and tells of a word, over any rule list; then the indexes of the shipped groups.
 pub mod Blocks
-pub mod Filters
+pub mod BlocksLaws
+pub mod Indexes
+pub mod Named

@@ -1,9 +1,9 @@
-// Which rules of steps 2 to 4 a word can end with, by its last three letters, before a table is named: most words pass no filter.
+// Which endings of steps 2 to 4 are compared with a word at all: by its second last letter a block of the group's rules, and of these none
+// where the letters beside it are no ending's. So for most words no table is named.
 ghost use mathlib.Core.Path.{_≡_};
-ghost use mathlib.Core.Bool.{true, _&&_};
-ghost use Rattle.paper.specs.Letters.{letterAt};
-ghost use Rattle.paper.specs.Shipped.{group-2, group-3, group-4};
-ghost use Rattle.blocks.specs.Blocks.{member, keeps};
+ghost use mathlib.Core.Bool.{true};
+ghost use Rattle.blocks.specs.Blocks.{member, passes, names};
+ghost use Rattle.blocks.specs.Indexes.{index-2, index-3, index-4};
 
 // The rules of a group with one letter second last, from a number up to another; and which letters they have last and third
 // last, a bit for each.
@@ -14,10 +14,10 @@ pub struct Block {
     pub thirds: u32,
 }
 
-// Step 2. A letter that no ending has gives an empty block. Some of these have an arm, so that the arms are dense and the match
+// Step 2. For a letter that is not in the index no letter passes. Some such letters have an arm, so that the arms are dense and the match
 // becomes a table.
 pub fn block_2(second: u8) -> Block
-    ensures { λ r. ⌜ keeps group-2 second (r .from) (r .to) (r .lasts) (r .thirds) ≡ true ⌝ }
+    ensures { λ r. ⌜ names index-2 second (r .from) (r .to) (r .lasts) (r .thirds) ≡ true ⌝ }
 {
     match second {
         b'a' => Block {
@@ -79,7 +79,7 @@ pub fn block_2(second: u8) -> Block
 
 // Step 3.
 pub fn block_3(second: u8) -> Block
-    ensures { λ r. ⌜ keeps group-3 second (r .from) (r .to) (r .lasts) (r .thirds) ≡ true ⌝ }
+    ensures { λ r. ⌜ names index-3 second (r .from) (r .to) (r .lasts) (r .thirds) ≡ true ⌝ }
 {
     match second {
         b'a' => Block {
@@ -159,7 +159,7 @@ pub fn block_3(second: u8) -> Block
 
 // Step 4.
 pub fn block_4(second: u8) -> Block
-    ensures { λ r. ⌜ keeps group-4 second (r .from) (r .to) (r .lasts) (r .thirds) ≡ true ⌝ }
+    ensures { λ r. ⌜ names index-4 second (r .from) (r .to) (r .lasts) (r .thirds) ≡ true ⌝ }
 {
     match second {
         b'a' => Block {
@@ -252,7 +252,7 @@ fn has(set: u32, letter: u8) -> bool
 
 // Whether a word's last and third last letter are in a block's sets.
 pub fn kept(word: &[u8], lasts: u32, thirds: u32) -> bool
-    ensures { λ r. ⌜ r ≡ member lasts (letterAt 0 (now (word .entry))) && member thirds (letterAt 2 (now (word .entry))) ⌝ }
+    ensures { λ r. ⌜ r ≡ passes lasts thirds (now (word .entry)) ⌝ }
 {
     has(lasts, conditions::letter_at(word, 0)) & has(thirds, conditions::letter_at(word, 2))
 }

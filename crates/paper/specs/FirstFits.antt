@@ -9,14 +9,15 @@ use mathlib.Core.Bool.{Bool, true, false, cond, not, _&&_, true≢false}
 use mathlib.Core.List.{List, [], _∷_, reverse, reverse-append}
 use mathlib.Core.Option.{none, some}
 use lib.Dec.{leb, ltb}
-use lib.ListN.{length, drop, getD, length-reverse, List·getD-append}
+use lib.ListN.{length, take, drop, getD, length-drop, length-reverse, List·getD-append}
+use lib.Seq.{getD-drop}
 use borrow.Author.Tests.{ne-eqb, ltb-true}
 use Rattle.paper.specs.Letters.{among, inward, letterAt}
 use Rattle.paper.specs.TestLaws.{by-test, and-both, and-parts, or-right}
 use Rattle.paper.specs.Groups.{Rule, replace, endsWith, before, which, first, fitting, chosen, obeyed}
 use Rattle.paper.specs.GroupsLaws.{ends-split, ends-yes}
 use Rattle.paper.specs.LettersLaws.{letterAt-index, letterAt-none}
-use Rattle.paper.specs.ReadingLaws.{every, applies, obeys, obeys-size, obeys-ends, obeys-holds}
+use Rattle.paper.specs.ReadingLaws.{every, applies, same-fitting, obeys, obeys-size, obeys-ends, obeys-holds}
 use Rattle.paper.specs.LongerFirst.{keepsOrder, longerFirst, longerFirst-rest, ends-nested, first-fits, passed-by}
 
 -- stands where a list of rules has none
@@ -129,6 +130,47 @@ unfolding obeyed chosen fitting which first
 undecided word [] misses = refl
 undecided word (rule ∷ rules) misses =
     passed-by word rule rules (misses 0 (omega arith) (omega arith)) ∙ undecided word rules (later rules rule (length rules) word misses)
+
+-- ## A part of a group
+
+-- without rules in front that do not end the word, and without such rules at the end, a group gives what it gave
+without-front :
+    (word : List ℕ) (rules : List Rule) (from : ℕ) → NoneFits (ruleOf rules) 0 from word → obeyed word rules ≡ obeyed word (drop from rules)
+without-front word rules zero misses = refl
+without-front word [] (suc from) misses = refl
+without-front word (rule ∷ rules) (suc from) misses =
+    passed-by word rule rules (misses 0 (omega arith) (omega arith)) ∙ without-front word rules from (later rules rule from word misses)
+
+none-fitting : (word : List ℕ) (rules : List Rule) → NoneFits (ruleOf rules) 0 (length rules) word → fitting word rules ≡ []
+unfolding fitting which
+none-fitting word [] misses = refl
+none-fitting word (rule ∷ rules) misses =
+    rw (misses 0 (omega arith) (omega arith)) (none-fitting word rules (later rules rule (length rules) word misses))
+
+fitting-front :
+    (word : List ℕ) (rules : List Rule) (n : ℕ)
+    → NoneFits (ruleOf rules) n (length rules) word
+    → fitting word (take n rules) ≡ fitting word rules
+unfolding fitting which
+fitting-front word [] zero misses = refl
+fitting-front word [] (suc n) misses = refl
+fitting-front word (rule ∷ rules) zero misses = sym (none-fitting word (rule ∷ rules) misses)
+fitting-front word (rule ∷ rules) (suc n) misses =
+    let rest = fitting-front word rules n (λ k low high. misses (suc k) (omega arith) (omega arith)) in
+    by-test (endsWith word (rule .ending)) (λ ends. rw (ends, rest)) (λ other. rw (other, rest))
+
+-- the rules from a number up to another, where no other ends the word, give what the group gives
+pub part-obeyed :
+    (word : List ℕ) (rules : List Rule) (from to : ℕ)
+    → from ≤ to
+    → NoneFits (ruleOf rules) 0 from word
+    → NoneFits (ruleOf rules) to (length rules) word
+    → obeyed word (take (to - from) (drop from rules)) ≡ obeyed word rules
+part-obeyed word rules from to order front back =
+    same-fitting word (take (to - from) (drop from rules)) (drop from rules)
+    (fitting-front word (drop from rules) (to - from)
+    (λ k low high. rw (getD-drop from rules k noRule) (back (from + k) (omega arith) (omega (arith, length-drop from rules)))))
+    ∙ sym (without-front word rules from front)
 
 -- ## The last letters of a word
 

@@ -13,8 +13,8 @@ use Rattle.paper.specs.FirstFits.{decides, ruleOf, undecided, lastAmong, other-
 use Rattle.rules.specs.RowsLaws.{Held}
 use Rattle.groups.specs.Reads.{Narrowed}
 use Rattle.readings.specs.Steps.{Outside}
-use Rattle.blocks.specs.Blocks.{member, keeps}
-use Rattle.blocks.specs.Filters.{block-bounds, none-before, none-behind, none-passes}
+use Rattle.blocks.specs.Blocks.{Entry, passes, names, keeps}
+use Rattle.blocks.specs.Named.{only-named, none-named}
 
 -- ## The last letter
 
@@ -28,22 +28,16 @@ none-last word letters rules all other = undecided word rules (other-last word l
 
 -- ## The block of a word's second last letter
 
-module _ (rules : List Rule) (second from to lasts thirds : ℕ) (kept : keeps rules second from to lasts thirds ≡ true) (word : List ℕ)
-    (is : second ≡ letterAt 1 word) where
+module _ (rules : List Rule) (index : List Entry) (kept : keeps rules index ≡ true) (second from to lasts thirds : ℕ)
+    (named : names index second from to lasts thirds ≡ true) (word : List ℕ) (is : second ≡ letterAt 1 word) {b : Bool}
+    (tells : b ≡ passes lasts thirds word) where
   -- what is asked where the block's rules are read
-  pub block-asks : {n : ℕ} → length rules ≡ n → Outside rules from to n word
-  block-asks size = (
-    omega (arith, block-bounds rules second from to lasts thirds kept .1),
-    (
-      none-before rules second from to lasts thirds kept word (sym is),
-      λ k low high. none-behind rules second from to lasts thirds kept word (sym is) k low (omega arith),
-    ),
-  )
+  pub block-asks : {n : ℕ} → length rules ≡ n → b ≡ true → Outside rules from to n word
+  block-asks size passing = rw size at (only-named rules index kept second from to lasts thirds named word is (sym tells ∙ passing))
 
   -- and where its sets do not have the word's letters no rule is obeyed
-  pub block-fails : {b : Bool} → b ≡ (member lasts (letterAt 0 word) && member thirds (letterAt 2 word)) → b ≡ false
-      → obeyed word rules ≡ none
-  block-fails tells fails = undecided word rules (none-passes rules second from to lasts thirds kept word (sym is) (sym tells ∙ fails))
+  pub block-fails : b ≡ false → obeyed word rules ≡ none
+  block-fails fails = undecided word rules (none-named rules index kept second from to lasts thirds named word is (sym tells ∙ fails))
 
 -- ## A table that holds a group
 

@@ -19,7 +19,7 @@ use Rattle.paper.specs.Shipped.{group-5b}
 use Rattle.rules.specs.Rows.{rowsOf}
 use Rattle.rules.specs.RowsLaws.{held-1a, held-1b, held-follow-up, held-1c, held-2, held-3, held-4, held-5a, held-5b}
 use Rattle.groups.specs.Reads.{cuts, free, Paired}
-use Rattle.blocks.specs.Filters.{needsPart, too-short}
+use Rattle.blocks.specs.BlocksLaws.{needsPart, too-short}
 use Rattle.readings.proofs.Narrow.{Decides}
 
 -- ## Step 1a

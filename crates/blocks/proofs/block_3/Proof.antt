@@ -1,62 +1,17 @@
--- `blocks::block_3` meets its contract: each arm's block is tested against the group, by computing.
-use native.Mathlib.Omega.{arith}
+-- `blocks::block_3` meets its contract: its match is the index.
 use mathlib.Core.Path.{refl}
 use Rattle.paper.specs.Letters.{letters, among}
-use Rattle.paper.specs.ReadingLaws.{every}
-use Rattle.paper.specs.Shipped.{group-3}
-use Rattle.blocks.specs.Filters.{hasSecond, other-kept, tested}
+use Rattle.blocks.specs.Blocks.{blockAt, names}
+use Rattle.blocks.specs.Indexes.{index-3}
+use Rattle.blocks.specs.Named.{onlyThese, other-named}
 use Rattle.blocks.proofs.block_3.Statement.{statement}
 use Rattle.blocks.proofs.block_3.Tie as tie
 
-returns : tie.Need-returns
-unfolding tested group-3
-returns c = rw (c .match .keys1)
-
-returns-2 : tie.Need-returns-2
-unfolding tested group-3
-returns-2 c = rw (c .match .keys2)
-
-returns-3 : tie.Need-returns-3
-unfolding tested group-3
-returns-3 c = rw (c .match .keys3)
-
-returns-4 : tie.Need-returns-4
-unfolding tested group-3
-returns-4 c = rw (c .match .keys4)
-
-returns-5 : tie.Need-returns-5
-unfolding tested group-3
-returns-5 c = rw (c .match .keys5)
-
-returns-6 : tie.Need-returns-6
-unfolding tested group-3
-returns-6 c = rw (c .match .keys6)
-
-returns-7 : tie.Need-returns-7
-unfolding tested group-3
-returns-7 c = rw (c .match .keys7)
-
-returns-8 : tie.Need-returns-8
-unfolding tested group-3
-returns-8 c = rw (c .match .keys8)
-
-returns-9 : tie.Need-returns-9
-unfolding tested group-3
-returns-9 c = rw (c .match .keys9)
-
-returns-10 : tie.Need-returns-10
-unfolding tested group-3
-returns-10 c = rw (c .match .keys10)
-
-returns-11 : tie.Need-returns-11
-unfolding tested group-3
-returns-11 c = rw (c .match .keys11)
-
-returns-12 : tie.Need-returns-12
-unfolding every hasSecond among tested group-3
-returns-12 c = other-kept (letters "zvutsfedcba") _ 1 1 0 1 (c .match .rest) group-3 refl (omega arith) (omega arith)
-
 pub block-3-spec : {M : Type 1} → statement M
+unfolding names blockAt onlyThese among letters index-3
 block-3-spec =
     tie.close
-    (tie.spec returns returns-2 returns-3 returns-4 returns-5 returns-6 returns-7 returns-8 returns-9 returns-10 returns-11 returns-12)
+    (tie.spec (λ c. rw (c .match .keys1)) (λ c. rw (c .match .keys2)) (λ c. rw (c .match .keys3)) (λ c. rw (c .match .keys4))
+    (λ c. rw (c .match .keys5)) (λ c. rw (c .match .keys6)) (λ c. rw (c .match .keys7)) (λ c. rw (c .match .keys8))
+    (λ c. rw (c .match .keys9)) (λ c. rw (c .match .keys10)) (λ c. rw (c .match .keys11))
+    (λ c. other-named (letters "zvutsfedcba") index-3 refl _ 1 1 1 (c .match .rest)))

@@ -8,6 +8,7 @@ use lib.ListN.{length, take}
 use lib.Seq.{length-take-le}
 use Rattle.paper.specs.Shipped.{group-2}
 use Rattle.groups.specs.ReadsLaws.{stays}
+use Rattle.blocks.specs.Indexes.{index-2, keeps-2}
 use Rattle.readings.proofs.Narrow.{block-asks, block-fails}
 use Rattle.readings.proofs.Tests.{size-2, short-2}
 use Rattle.readings.proofs.step_2.Statement.{statement}
@@ -33,15 +34,19 @@ slice-aggregate-kept c = sym (size (c .before .before .before .before .before .b
 within-2-requires : tie.Need-within-2-requires
 within-2-requires c κs =
     let b = c .before .before .before .before .before in
-    let s = b .before .before .before .before .before .before in
-    (s .pre, block-asks group-2 _ _ _ _ _ (b .block-2 .ensures) (word s) (b .before .letter-at .ensures) size-2)
+    let s = b .before .before .before .before .before .before in (
+      s .pre,
+      block-asks group-2 index-2 keeps-2 _ _ _ _ _ (b .block-2 .ensures) (word s) (b .before .letter-at .ensures)
+          (c .before .before .before .kept .ensures) size-2 (c .before .before .if2 .taken),
+    )
 
 returns-3 : tie.Need-returns-3
 returns-3 c =
     let b = c .before .before .before in
     let s = b .before .before .before .before .before .before in
     stays group-2 (s .pre .0)
-    (block-fails group-2 _ _ _ _ _ (b .block-2 .ensures) (word s) (b .before .letter-at .ensures) (c .before .kept .ensures) (c .if2 .left))
+    (block-fails group-2 index-2 keeps-2 _ _ _ _ _ (b .block-2 .ensures) (word s) (b .before .letter-at .ensures)
+    (c .before .kept .ensures) (c .if2 .left))
 
 pub step-2-spec : {M : Type 1} → statement M
 step-2-spec =

@@ -2,6 +2,7 @@
 use borrow.Author.Needs.{needs}
 use Rattle.paper.specs.Shipped.{group-3}
 use Rattle.groups.specs.ReadsLaws.{kept-whole}
+use Rattle.blocks.specs.Indexes.{index-3, keeps-3}
 use Rattle.readings.proofs.Narrow.{block-asks, block-fails}
 use Rattle.readings.proofs.Tests.{size-3, short-3}
 use Rattle.readings.proofs.step_3.Statement.{statement}
@@ -15,15 +16,19 @@ returns c =
 within-3-requires : tie.Need-within-3-requires
 within-3-requires c κs =
     let b = c .before .before in
-    let s = b .before .before .before .before .before in
-    (s .pre, block-asks group-3 _ _ _ _ _ (b .block-3 .ensures) (s .args .word .now) (b .before .letter-at .ensures) size-3)
+    let s = b .before .before .before .before .before in (
+      s .pre,
+      block-asks group-3 index-3 keeps-3 _ _ _ _ _ (b .block-3 .ensures) (s .args .word .now) (b .before .letter-at .ensures)
+          (c .before .kept .ensures) size-3 (c .if2 .taken),
+    )
 
 returns-3 : tie.Need-returns-3
 returns-3 c =
     let b = c .before .before in
     let word = b .before .before .before .before .before .args .word .now in
     kept-whole group-3 word
-    (block-fails group-3 _ _ _ _ _ (b .block-3 .ensures) word (b .before .letter-at .ensures) (c .before .kept .ensures) (c .if2 .left))
+    (block-fails group-3 index-3 keeps-3 _ _ _ _ _ (b .block-3 .ensures) word (b .before .letter-at .ensures)
+    (c .before .kept .ensures) (c .if2 .left))
 
 pub step-3-spec : {M : Type 1} → statement M
 step-3-spec = tie.close

@@ -2,6 +2,7 @@
 use borrow.Author.Needs.{needs}
 use Rattle.paper.specs.Shipped.{group-4}
 use Rattle.groups.specs.ReadsLaws.{kept-whole}
+use Rattle.blocks.specs.Indexes.{index-4, keeps-4}
 use Rattle.readings.proofs.Narrow.{block-asks, block-fails}
 use Rattle.readings.proofs.Tests.{size-4, short-4}
 use Rattle.readings.proofs.step_4.Statement.{statement}
@@ -15,15 +16,19 @@ returns c =
 within-4-requires : tie.Need-within-4-requires
 within-4-requires c κs =
     let b = c .before .before in
-    let s = b .before .before .before .before .before in
-    (s .pre, block-asks group-4 _ _ _ _ _ (b .block-4 .ensures) (s .args .word .now) (b .before .letter-at .ensures) size-4)
+    let s = b .before .before .before .before .before in (
+      s .pre,
+      block-asks group-4 index-4 keeps-4 _ _ _ _ _ (b .block-4 .ensures) (s .args .word .now) (b .before .letter-at .ensures)
+          (c .before .kept .ensures) size-4 (c .if2 .taken),
+    )
 
 returns-3 : tie.Need-returns-3
 returns-3 c =
     let b = c .before .before in
     let word = b .before .before .before .before .before .args .word .now in
     kept-whole group-4 word
-    (block-fails group-4 _ _ _ _ _ (b .block-4 .ensures) word (b .before .letter-at .ensures) (c .before .kept .ensures) (c .if2 .left))
+    (block-fails group-4 index-4 keeps-4 _ _ _ _ _ (b .block-4 .ensures) word (b .before .letter-at .ensures)
+    (c .before .kept .ensures) (c .if2 .left))
 
 pub step-4-spec : {M : Type 1} → statement M
 step-4-spec = tie.close
