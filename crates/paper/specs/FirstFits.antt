@@ -125,11 +125,15 @@ pub none-yet : (at : ℕ → Rule) (word : List ℕ) → NoneFits at 0 0 word
 none-yet at word k low high = absurd (omega arith)
 
 -- where none ends the word, no rule is obeyed
+none-fitting : (word : List ℕ) (rules : List Rule) → NoneFits (ruleOf rules) 0 (length rules) word → fitting word rules ≡ []
+unfolding fitting which
+none-fitting word [] misses = refl
+none-fitting word (rule ∷ rules) misses =
+    rw (misses 0 (omega arith) (omega arith)) (none-fitting word rules (later rules rule (length rules) word misses))
+
 pub undecided : (word : List ℕ) (rules : List Rule) → NoneFits (ruleOf rules) 0 (length rules) word → obeyed word rules ≡ none
 unfolding obeyed chosen fitting which first
-undecided word [] misses = refl
-undecided word (rule ∷ rules) misses =
-    passed-by word rule rules (misses 0 (omega arith) (omega arith)) ∙ undecided word rules (later rules rule (length rules) word misses)
+undecided word rules misses = same-fitting word rules [] (none-fitting word rules misses)
 
 -- ## A part of a group
 
@@ -140,12 +144,6 @@ without-front word rules zero misses = refl
 without-front word [] (suc from) misses = refl
 without-front word (rule ∷ rules) (suc from) misses =
     passed-by word rule rules (misses 0 (omega arith) (omega arith)) ∙ without-front word rules from (later rules rule from word misses)
-
-none-fitting : (word : List ℕ) (rules : List Rule) → NoneFits (ruleOf rules) 0 (length rules) word → fitting word rules ≡ []
-unfolding fitting which
-none-fitting word [] misses = refl
-none-fitting word (rule ∷ rules) misses =
-    rw (misses 0 (omega arith) (omega arith)) (none-fitting word rules (later rules rule (length rules) word misses))
 
 fitting-front :
     (word : List ℕ) (rules : List Rule) (n : ℕ)
