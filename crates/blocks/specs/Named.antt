@@ -13,7 +13,7 @@ use Rattle.paper.specs.FirstFits.{NoneFits, ruleOf}
 use Rattle.blocks.specs.Blocks.{member, passes, Entry, blockAt, names, keeps}
 use Rattle.blocks.specs.BlocksLaws.{member-none, bounds, left-out, none-before, none-behind}
 
--- ## A letter that is in the index, or not
+-- ## A block that the index names
 
 module _ (index : List Entry) (letter from to lasts thirds : ℕ) (named : names index letter from to lasts thirds ≡ true) where
   named-lasts : lasts ≡ blockAt index letter .lasts
