@@ -18,9 +18,19 @@ STEMS = """feed→feed agreed→agre element→element hopping→hop hoping→ho
 # W-201: a word, its stem, and what reading the shipped rules, as a sheet or by its table, leaves of it.
 SHORT = """s→s→ y→y→y us→us→u as→as→a is→is→i ay→ay→ai by→by→by ed→ed→ed ies→i→i gas→ga→ga bed→bed→bed"""
 
-WRONG_LENGTH = [b"", b"a" * 65, b"1" * 65, b"a" * 4096, b"A" * 4096]
-OTHER_BYTES = [b"a1", b"1", b"Feed", b"feeD", b"FEED", b"cats ", b" cats", b"a\0", b"\xff"]
-OTHER_BYTES += [b"`", b"{", b"caf\xc3\xa9s", b"cat's", b"a" * 63 + b"Z", b"9" * 64]
+WRONG_LENGTH = [b"", b"a" * 65, b"1" * 65, b"a" * 64 + b"1", b"1" + b"a" * 64]
+WRONG_LENGTH += [b"a" * 4096, b"A" * 4096]
+
+# W-204: words by the place of their first byte outside a to z.
+PLACES = {
+    0: [b"1", b"1st", b"1s2s", b"1" + b"a" * 63, b"9" * 64, b"Feed", b"FEED", b" cats", b"\xff"],
+    1: [b"a`", b"a{", b"a1", b"a\0", b"a\0s", b"a1b2", b"q345t", b"q3" + b"a" * 62],
+    3: [b"feeD", b"cat's", b"caf\xc3\xa9s"],
+    4: [b"type4", b"cats ", b"cats{`", b"cats`{"],
+    62: [b"a" * 62 + b"1a", b"a" * 62 + b"12"],
+    63: [b"a" * 63 + b"1", b"a" * 63 + b"Z"],
+}
+OTHER_BYTES = [(word, place) for place, words in PLACES.items() for word in words]
 
 
 def done(word, stem):
@@ -36,7 +46,7 @@ WORDS = [done(word, stem) for word, stem in told(STEMS)]
 WORDS += [done(word, stem) for word, stem, _ in told(SHORT)]
 WORDS += [done(b"a" * 64, b"a" * 64)]
 WORDS += [((WORD, word), (1, 0, word)) for word in WRONG_LENGTH]
-WORDS += [((WORD, word), (2, 0, word)) for word in OTHER_BYTES]
+WORDS += [((WORD, word), (2, place, word)) for word, place in OTHER_BYTES]
 
 # Texts
 
@@ -51,6 +61,7 @@ TEXTS = [
     ((TEXT, b"A" * 64), (0, 1, 0, b"a" * 64)),
     ((TEXT, b"A" * 65), (0, 0, 1, b"A" * 65)),
     ((TEXT, b"it's caf\xc3\xa9s\0"), (0, 4, 0, b"it's caf\xc3\xa9s\0")),
+    ((TEXT, b"1sts 2cats{ type4"), (0, 3, 0, b"1st  2cat { type4")),
     ((TEXT, LONG), (0, 32768, 0, LONG)),
     ((TEXT, LONG + b"A"), (5, 0, 0, LONG + b"A")),
     ((NEXT, FEEDS, 0), (0, 5)),
@@ -131,8 +142,10 @@ TABLES = [
     ((RUN, SHEET_19, TABLE_19[:-1] + [2], b"cats"), (7, 0, b"cats")),
     ((RUN, SHEET_19, TABLE_EED, b""), (7, 0, b"")),
     ((RUN, SHEET_19 + b"\0", TABLE_EED, b""), (3, 15, b"")),
+    ((RUN, SHEET_19, TABLE_19[:-1], b"1s"), (7, 0, b"1s")),
     ((RUN, SHEET_19, TABLE_19, b"1" * 65), (1, 0, b"1" * 65)),
-    ((RUN, SHEET_19, TABLE_19, b"1s"), (2, 0, b"1s")),
+    *(((RUN, SHEET_19, TABLE_19, word), (2, place, word)) for word, place in OTHER_BYTES),
+    ((RUN, ALWAYS + rule(b"", b"e") + CLOSE, [0, 0, 0, 1], b"hop3"), (2, 3, b"hop3")),
     ((RUN, SHEET_EED, TABLE_EED, b"feed"), (0, 4, b"feed")),
     ((RUN, SHEET_EED, TABLE_EED, b"agreed"), (0, 5, b"agree ")),
     ((RUN, SHEET_EED, TABLE_EED, b"hoped"), (0, 3, b"hop  ")),

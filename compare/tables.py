@@ -1,4 +1,5 @@
-"""Sets of table runs for request 6: samples, runs over made sheets and over the shipped one."""
+"""Sets of table runs for request 6: samples, words with other bytes, runs over made sheets and over
+the shipped one."""
 
 import random
 
@@ -11,7 +12,8 @@ from second.tables import nodes_of
 from sets import Set
 from sheets import damaged, made_groups, made_letters
 from words import damaged as damaged_word
-from words import SMALL, all_words, made_part, made_word, published, published_answer
+from words import LENGTHS, SMALL, all_words, found_by_search, made_part, made_word, other_bytes
+from words import published, published_answer
 
 
 def sample_runs(_batch):
@@ -54,6 +56,11 @@ def made_runs(batch):
     return requests
 
 
+def other_runs(batch):
+    """The 19-byte sheet and its table, on words with other bytes."""
+    return [(RUN, samples.SHEET_19, samples.TABLE_19, word) for _, word in other_bytes(batch)]
+
+
 def shipped_runs(batch):
     """The shipped sheet and its table, on made words."""
     rng = random.Random(f"shipped runs {batch}")
@@ -92,6 +99,7 @@ def by_rules(request):
 
 SETS = [
     Set("samples", 1, sample_runs, by_rules),
+    Set("other bytes", len(LENGTHS), other_runs, found_by_search),
     Set("made", 24, made_runs, by_rules),
     Set("shipped", 4, shipped_runs, by_rules),
     Set("shipped, short words", 1, short_runs, by_rules),

@@ -1,7 +1,9 @@
-"""Sets of words for request 1: samples, the published vocabulary, all short words, made words."""
+"""Sets of words for request 1: samples, the published vocabulary, all short words, words with other
+bytes, made words."""
 
 import itertools
 import random
+import re
 from functools import lru_cache
 from pathlib import Path
 
@@ -54,6 +56,46 @@ def all_words(alphabet, *lengths):
 def short_words(_batch):
     """Every word of no, one or two bytes, and every one of three small letters."""
     return [(WORD, word) for word in all_words(range(256), 0, 1, 2) + all_words(SMALL, 3)]
+
+
+# W-204: other bytes among letters that rules change.
+
+OTHERS = bytes(byte for byte in range(256) if byte not in SMALL)
+
+
+def letters_of(length):
+    return bytearray((b"relational" * 7)[:length])
+
+
+def one_other(length):
+    """Every byte that is no small letter, in every place of a word."""
+    for place, byte in itertools.product(range(length), OTHERS):
+        word = letters_of(length)
+        word[place] = byte
+        yield bytes(word)
+
+
+def two_others(length, rng):
+    """Such bytes in every two places of a word."""
+    for first, last in itertools.combinations(range(length), 2):
+        word = letters_of(length)
+        word[first], word[last] = rng.choices(OTHERS, k=2)
+        yield bytes(word)
+
+
+LENGTHS = (3, 4, 10, 63, 64, 65)
+
+
+def other_bytes(batch):
+    length, rng = LENGTHS[batch], random.Random(f"other bytes {batch}")
+    return [(WORD, word) for word in itertools.chain(one_other(length), two_others(length, rng))]
+
+
+def found_by_search(request):
+    """The third way, where the word is not refused for its length."""
+    word = request[-1]
+    found = re.search(rb"[^a-z]", word)
+    return (2, found.start(), word) if len(word) <= 64 else None
 
 
 # Made words: the letters on which rules turn are common, and endings are stacked.
@@ -117,6 +159,7 @@ SETS = [
     Set("samples", 1, sample_words),
     Set("vocabulary", 1, vocabulary, published_answer, [(WORD, word) for word in READ_OTHERWISE]),
     Set("short", 1, short_words),
+    Set("other bytes", len(LENGTHS), other_bytes, found_by_search),
     Set("made", 20, made_words),
     Set("long", 1, long_words),
     Set("one run", 1, one_run),

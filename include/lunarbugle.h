@@ -7,7 +7,8 @@
  * Numbers returned:
  *   0  done
  *   1  the word has 0 or more than 64 bytes
- *   2  a byte of the word is outside a to z
+ *   2  a byte of the word is outside a to z. A text is never refused so: its capitals are made small, and every other byte
+ *      stands between words
  *   4  some group's result is longer than the word's place (the shipped rules never give it)
  *   5  the text has more than 65,536 bytes
  * A refusal, that is any number but 0, leaves every lent byte as it was.
@@ -23,7 +24,8 @@ extern "C" {
 #endif
 
 /* Stems the len bytes at word in their own place: the stem stands first and spaces fill the rest. A word of one or two letters is
- * its own stem. Returns the number, plus 256 times the stem's length (0 for a refusal). */
+ * its own stem. Returns the number, plus 256 times what is returned besides it: with 0 the stem's length, with 2 the place, counted
+ * from 0, of the first byte outside a to z, otherwise 0. */
 uint64_t lunarbugle_stem(uint8_t *word, size_t len);
 
 /* The most bytes that lunarbugle_text takes. */
@@ -46,8 +48,14 @@ static inline unsigned lunarbugle_number(uint64_t answer)
     return (unsigned)(answer % 256);
 }
 
-/* The stem's length in an answer of lunarbugle_stem. */
+/* The stem's length in an answer of lunarbugle_stem; 0 for a refusal, whatever its number, so that no place is taken for a length. */
 static inline size_t lunarbugle_stem_length(uint64_t answer)
+{
+    return answer % 256 == 0 ? (size_t)(answer / 256) : 0;
+}
+
+/* The place of the first byte outside a to z in an answer of lunarbugle_stem whose number is 2: at most 63. */
+static inline size_t lunarbugle_other_byte(uint64_t answer)
 {
     return (size_t)(answer / 256);
 }

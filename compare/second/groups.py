@@ -10,8 +10,12 @@ Group = namedtuple("Group", "gate rules")
 REPLACE, SINGLE_LETTER = 0, 1  # a rule's action
 
 
+def small_letter(byte):
+    return ord("a") <= byte <= ord("z")
+
+
 def small_letters(text):
-    return all(ord("a") <= letter <= ord("z") for letter in text)
+    return all(map(small_letter, text))
 
 
 def obey_first(rules, word):
@@ -34,12 +38,13 @@ def read_group(group, word):
 
 
 def run_groups(groups, read, word):
-    """Number, stem length and the word's place after these groups. `read(index, word)` reads the
-    group of that index, by its rules or by a table."""
+    """Number, stem length or place or 0, and the word's place after these groups. `read(index, word)`
+    reads the group of that index, by its rules or by a table."""
     if not 1 <= len(word) <= 64:
         return 1, 0, word
-    if not small_letters(word):
-        return 2, 0, word
+    for place, byte in enumerate(word):
+        if not small_letter(byte):
+            return 2, place, word  # W-204
     stem, opened = word, False
     for index, group in enumerate(groups):
         if group.gate == 1 and not opened:

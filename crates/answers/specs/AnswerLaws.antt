@@ -24,13 +24,13 @@ use Rattle.answers.specs.declared.Ran.the-variants.{Word, Refused as Unr
 
 unfoldable pub answerOf : ℕ → ℕ → Answer
 answerOf number value =
-    cond (eqb number 0) (Done value) (cond (eqb number 1) WrongLength (cond (eqb number 2) OtherByte Outgrown))
+    cond (eqb number 0) (Done value) (cond (eqb number 1) WrongLength (cond (eqb number 2) (OtherByte value) Outgrown))
 
 pub answer-is : (answer : Answer) → answerOf (numberOf answer) (valueOf answer) ≡ answer
 unfolding answerOf
 answer-is (Done n) = refl
 answer-is WrongLength = refl
-answer-is OtherByte = refl
+answer-is (OtherByte place) = refl
 answer-is Outgrown = refl
 
 abbrev pub answers : Told Answer
@@ -96,7 +96,7 @@ pub ran-is : (ran : Ran) → ranOf (numberOfRan ran) (valueOfRan ran) ≡ ran
 unfolding ranOf answerOf
 ran-is (Word (Done size)) = refl
 ran-is (Word WrongLength) = refl
-ran-is (Word OtherByte) = refl
+ran-is (Word (OtherByte place)) = refl
 ran-is (Word Outgrown) = refl
 ran-is (Unread place) = refl
 ran-is Table = refl

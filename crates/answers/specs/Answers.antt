@@ -18,18 +18,18 @@ use Rattle.answers.specs.declared.Ran.the-variants.{Word, Refused as Unr
 
 -- ## A word
 
--- "0 .. done .. length of the stem"; "1 .. the word has 0 or more than 64 bytes"; "2 .. a byte of the word is outside a to z"; "4 .. some
--- group's result is longer than the word's place"
+-- "0 .. done .. length of the stem"; "1 .. the word has 0 or more than 64 bytes"; "2 .. a byte of the word is outside a to z", with the
+-- place of the first (W-204); "4 .. some group's result is longer than the word's place"
 abbrev pub numberOf : Answer → ℕ
 numberOf (Done length) = 0
 numberOf WrongLength = 1
-numberOf OtherByte = 2
+numberOf (OtherByte place) = 2
 numberOf Outgrown = 4
 
 abbrev pub valueOf : Answer → ℕ
 valueOf (Done length) = length
 valueOf WrongLength = 0
-valueOf OtherByte = 0
+valueOf (OtherByte place) = place
 valueOf Outgrown = 0
 
 -- what is said before it is read

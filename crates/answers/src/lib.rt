@@ -11,13 +11,13 @@ pub enum Answer {
     Done(usize),
     // 1: the word has 0 or more than 64 bytes.
     WrongLength,
-    // 2: a byte of the word is outside a to z.
-    OtherByte,
+    // 2: the place of the word's first byte outside a to z.
+    OtherByte(usize),
     // 4: some group's result is longer than the word's place. The shipped rules never give it.
     Outgrown,
 }
 
-// What the text run answers.
+// What the text run answers. It has no 2: of the bytes outside a to z capitals are made small, and the others separate words.
 pub enum TextRun {
     // 0: every word was rewritten or left: how many of each.
     Done { stemmed: usize, left: usize },
@@ -80,7 +80,7 @@ pub fn judge_by(length: usize, other: usize) -> Judged
         return Judged::Refused(Answer::WrongLength);
     }
     if other < length {
-        return Judged::Refused(Answer::OtherByte);
+        return Judged::Refused(Answer::OtherByte(other));
     }
     Judged::Taken
 }
@@ -117,9 +117,9 @@ pub fn of_word(answer: Answer) -> Reply
             number: 1,
             value: 0,
         },
-        Answer::OtherByte => Reply {
+        Answer::OtherByte(other) => Reply {
             number: 2,
-            value: 0,
+            value: other,
         },
         Answer::Outgrown => Reply {
             number: 4,

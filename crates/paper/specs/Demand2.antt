@@ -15,7 +15,7 @@ use Rattle.paper.specs.LengthLaws.{NeverLengthens, stem-done}
 use Rattle.paper.specs.Shipped.{shipped}
 use Rattle.paper.specs.Words.{readWord, stem, placed, wrongLength, allSmall, Outcome, outcome}
 use Rattle.paper.specs.Words.{judged, readingOutcome, judgedOutcome, wordOutcome}
-use Rattle.paper.specs.WordsLaws.{judged-taken, outcome-taken, stem-short, stem-longer}
+use Rattle.paper.specs.WordsLaws.{first-inside, judged-taken, outcome-taken, stem-short, stem-longer}
 
 -- what a call on a word of 1 to 64 small letters gives
 pub record Stemmed-to (word stem-of : List ℕ) : Type 0 where
@@ -70,4 +70,4 @@ module _ (rule : List ℕ → Reading) (never : NeverLengthens rule) (word : Lis
       let most = ltb-false 64 (length word) (neither-right (eqb (length word) 0) _ right) in
       by-test (allSmall word)
       (λ all. rw (right, all) (reading-bounds (rule word) refl most))
-      (λ other. rw (right, other) (record { number = omega arith; value = omega arith; place = refl })))
+      (λ other. rw (right, other) (record { number = omega arith; value = omega (arith, most, first-inside word); place = refl })))

@@ -1,5 +1,6 @@
 -- The samples that document 01 marks P, with W-201's answer for s; words of one and two letters by their stem and as sheets and tables
--- read them, side by side; and 01's examples of the measure: each as one statement over a single list. And how many rules 01 has.
+-- read them, side by side; words that are refused, with W-204's places; and 01's examples of the measure: each as one statement over a
+-- single list. And how many rules 01 has.
 use Prim.Native.Nat.{ℕ, _+_}
 use Prim.Native.String.{String}
 use native.Mathlib.Omega.{arith}
@@ -12,7 +13,7 @@ use Rattle.paper.specs.Groups.{Group, done, same, endsWith, before, whic
 use Rattle.paper.specs.Groups.{result, opensNext, steps, reading}
 use Rattle.paper.specs.Shipped.{shipped}
 use Rattle.paper.specs.Words.{readWord, stem, placed, wrongLength, allSmall, Outcome, judged, readingOutcome, judgedOutcome}
-use Rattle.paper.specs.Words.{wordOutcome, outcome}
+use Rattle.paper.specs.Words.{firstOther, refused, wordOutcome, outcome}
 
 -- "nine groups, 62 rules"
 unfoldable pub ruleCount : List Group → ℕ
@@ -93,6 +94,26 @@ short-differ = (
   differs "us" (letters "us") (letters "u ") (ap (λ (l : List Places). getD l 1 ([], [])) short-samples-hold)
       (λ e. let letter : _≡_ {A = ℕ} 115 32 = ap (λ (l : List ℕ). getD l 1 0) e in omega arith),
 )
+
+-- a word that is refused, the number and the value: a digit first, last, at 63, more than one; 1 comes before 2
+unfoldable pub refusals : List (String × ℕ × ℕ)
+refusals =
+    ("1", 2, 0)
+    ∷ ("1st", 2, 0)
+    ∷ ("a1", 2, 1)
+    ∷ ("type4", 2, 4)
+    ∷ ("q345t", 2, 1)
+    ∷ ("no sheet", 2, 2)
+    ∷ ("Feed", 2, 0)
+    ∷ ("aaaaaaaaaaaaaaaaaaaaaaaaaaaaaaaaaaaaaaaaaaaaaaaaaaaaaaaaaaaaaaa1", 2, 63)
+    ∷ ("aaaaaaaaaaaaaaaaaaaaaaaaaaaaaaaaaaaaaaaaaaaaaaaaaaaaaaaaaaaaaaa1a", 1, 0)
+    ∷ ("", 1, 0)
+    ∷ []
+
+pub refusals-hold :
+    map (λ s. outcome (letters (s .0))) refusals ≡ map (λ s. refused (s .1) (s .2) (letters (s .0))) refusals
+unfolding letters allSmall firstOther wrongLength judged judgedOutcome wordOutcome refusals
+refusals-hold = refl
 
 -- a part and its measure
 unfoldable pub measures : List (String × ℕ)

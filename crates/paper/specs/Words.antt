@@ -1,4 +1,4 @@
--- The stem of a word, and what a call on a word answers: document 01, "Numbers returned", with W-201 of document 02.
+-- The stem of a word, and what a call on a word answers: document 01, "Numbers returned", with W-201 and W-204 of document 02.
 use Prim.Native.Nat.{ℕ, _-_}
 use mathlib.Core.Path.{_≡_}
 use mathlib.Core.Bool.{Bool, true, false, cond, _&&_, _||_}
@@ -62,13 +62,13 @@ pub data Judgement : Type 0 where
   taken : Judgement
   turnedDown : ℕ → ℕ → Judgement
 
--- "1, 2 .. for a word"
+-- "1, 2 .. for a word"; W-204: "number 2 returns the place instead of 0"
 unfoldable pub judged : List ℕ → Judgement
-judged word = cond (wrongLength word) (turnedDown 1 0) (cond (allSmall word) taken (turnedDown 2 0))
+judged word = cond (wrongLength word) (turnedDown 1 0) (cond (allSmall word) taken (turnedDown 2 (firstOther word)))
 
 -- the same by the word's length and the place of its first byte outside a to z
 unfoldable pub judgedBy : ℕ → ℕ → Judgement
-judgedBy size other = cond (eqb size 0 || ltb 64 size) (turnedDown 1 0) (cond (ltb other size) (turnedDown 2 0) taken)
+judgedBy size other = cond (eqb size 0 || ltb 64 size) (turnedDown 1 0) (cond (ltb other size) (turnedDown 2 other) taken)
 
 unfoldable pub readingOutcome : List ℕ → Reading → Outcome
 readingOutcome word (done stem) = record { number = 0; value = length stem; place = placed word stem }

@@ -71,7 +71,7 @@ module _ (word : List ℕ) where
   judged-long long = rw (or-right _ _ (lt-ltb 64 (length word) long))
 
   module _ (some : length word ≡ 0 → ⊥) (most : length word ≤ 64) where
-    pub judged-other : allSmall word ≡ false → judged word ≡ turnedDown 2 0
+    pub judged-other : allSmall word ≡ false → judged word ≡ turnedDown 2 (firstOther word)
     unfolding judged wrongLength
     judged-other other = rw (ne-eqb (length word) 0 some, le-ltb 64 (length word) most, other)
 
@@ -84,8 +84,8 @@ module _ (word : List ℕ) where
   judged-by = rw (other-inside word) (go (wrongLength word) (allSmall word))
     where
       go : (wrong all : Bool)
-          → cond wrong (turnedDown 1 0) (cond (not all) (turnedDown 2 0) taken)
-          ≡ cond wrong (turnedDown 1 0) (cond all taken (turnedDown 2 0))
+          → cond wrong (turnedDown 1 0) (cond (not all) (turnedDown 2 (firstOther word)) taken)
+          ≡ cond wrong (turnedDown 1 0) (cond all taken (turnedDown 2 (firstOther word)))
       go true all = refl
       go false true = refl
       go false false = refl

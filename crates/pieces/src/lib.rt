@@ -23,10 +23,11 @@ pub fn first_other(word: &[u8]) -> usize
 {
     let mut i = 0;
     while i < word.len() {
-        if word[i] < 97 {
+        let byte = word[i];
+        if byte < 97 {
             return i;
         }
-        if 122 < word[i] {
+        if 122 < byte {
             return i;
         }
         i += 1;

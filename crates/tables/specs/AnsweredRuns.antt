@@ -11,14 +11,14 @@ use Rattle.paper.specs.GroupsLaws.{same-equal, same-itself}
 use Rattle.paper.specs.Nodes.{nodeCount}
 use Rattle.paper.specs.TestLaws.{apart, by-test}
 use Rattle.paper.specs.Words.{Outcome, readWord, wordOutcome}
-use Rattle.paper.specs.Answered.{answered}
+use Rattle.paper.specs.Answered.{RightLength, FirstOther, answered, answered-place}
 use Rattle.sheets.specs.Sheets.{Sheet, refused, accepted, readSheet}
 use Rattle.sheets.specs.Accepted.{groupsIn, groupsOf, Accepted}
 use Rattle.sheets.specs.Checks.{checkOf, checked}
 use Rattle.siblings.specs.CountLaws.{table-length}
 use Rattle.siblings.specs.Layout.{tableOf}
 use Rattle.tables.specs.RunOutcomes.{rightTable, runOf, runOutcome}
-use Rattle.tables.specs.Demand3.{right-reads}
+use Rattle.tables.specs.Demand3.{right-reads, run-reads}
 
 -- the table's first 4 × node count numbers are those the groups make
 abbrev pub Right : List Group → List ℕ → Type 0
@@ -95,3 +95,19 @@ module _ (sheet table word : List ℕ) where
       ↔ (Accepted sheet × Right (groupsOf sheet) table × (wordOutcome (readWord (groupsOf sheet)) word .number ≡ n))
   unfolding runOutcome groupsOf
   ran-as-read n no-3 no-7 = read-by table word n no-3 no-7 (readSheet sheet)
+
+  value-read : Accepted sheet → Right (groupsOf sheet) table
+      → runOutcome sheet table word .value ≡ wordOutcome (readWord (groupsOf sheet)) word .value
+  value-read is right =
+      ap (λ (o : Outcome). o .value) (run-reads sheet table word (groupsOf sheet) is (is-right table word (groupsOf sheet) right))
+
+  -- W-204: with 2 the place of the first byte outside a to z is returned, and no other
+  pub ran-place : (place : ℕ)
+      → ((number ≡ 2) × (runOutcome sheet table word .value ≡ place))
+      ↔ (Accepted sheet × Right (groupsOf sheet) table × (RightLength word × FirstOther word place))
+  ran-place place =
+      let two = ran-as-read 2 (λ is. omega (arith, is)) (λ is. omega (arith, is)) in
+      let named = answered-place (readWord (groupsOf sheet)) word place in (
+        λ is. let read = two .0 (is .0) in (read .0, read .1, named .0 (read .2, sym (value-read (read .0) (read .1)) ∙ is .1)),
+        λ all. let both = named .1 (all .2) in (two .1 (all .0, all .1, both .0), value-read (all .0) (all .1) ∙ both .1),
+      )

@@ -53,7 +53,7 @@ right-reads groups table word right =
     let front = same-equal (take (4 * nodeCount groups) table) (tableOf groups) right in
     rw (right, front) (demand-3-outcome groups word)
 
-run-reads : (sheet table word : List ℕ) (groups : List Group) → readSheet sheet ≡ accepted groups → rightTable groups table ≡ true
+pub run-reads : (sheet table word : List ℕ) (groups : List Group) → readSheet sheet ≡ accepted groups → rightTable groups table ≡ true
     → runOutcome sheet table word ≡ wordOutcome (readWord groups) word
 unfolding runOutcome
 run-reads sheet table word groups is right = rw is (right-reads groups table word right)

@@ -3,7 +3,7 @@
 use Prim.Native.Nat.{ℕ, _+_, _≤_, _<_}
 use mathlib.Core.Path.{_≡_, refl, ap}
 use mathlib.Core.Bool.{false}
-use mathlib.Core.Logic.{_↔_}
+use mathlib.Core.Logic.{_↔_, _⊎_, inl, inr}
 use mathlib.Core.List.{List}
 use native.Mathlib.Omega.{arith}
 use lib.Dec.{ltb}
@@ -56,6 +56,10 @@ module _ (rule : List ℕ → Reading) (text : List ℕ) where
     either-way (λ o. o .number ≡ 5 → 65536 < length text) (λ long is. long) (λ short is. absurd (omega (arith, is))),
     λ long. ap (λ (o : Outcome). o .number) (refused-over long),
   )
+
+  -- and otherwise 0, never 2: of the bytes outside a to z a text has capitals, which are made small, and those that separate words
+  pub done-or-5 : (textOutcome rule text .number ≡ 0) ⊎ (textOutcome rule text .number ≡ 5)
+  done-or-5 = either-way (λ o. (o .number ≡ 0) ⊎ (o .number ≡ 5)) (λ long. inr refl) (λ short. inl refl)
 
   pub number-within : textOutcome rule text .number ≤ 5
   number-within = either-way (λ o. o .number ≤ 5) (λ long. omega arith) (λ short. omega arith)

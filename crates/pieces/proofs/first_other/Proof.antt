@@ -12,36 +12,21 @@ Inv-loop word i₀ i = (i ≤ length word) × Sought word i
 abbrev μ-loop : tie.MeasureT-loop
 μ-loop word i₀ i = length word - i
 
-loop-holds : tie.Need-loop-holds Inv-loop μ-loop
-loop-holds c = (omega arith, omega arith)
-
-shared-slice-read-if1 : tie.Need-shared-slice-read-if1 Inv-loop μ-loop
-shared-slice-read-if1 c = omega arith
-
 returns : tie.Need-returns Inv-loop μ-loop
 returns c =
     let at = c .before .before .before .loop in
     below-found (c .before .before .before .before .args .word .now) (at .i) (at .inv .1) (omega arith) (c .if1 .taken)
 
-shared-slice-read-if2 : tie.Need-shared-slice-read-if2 Inv-loop μ-loop
-shared-slice-read-if2 c = omega arith
-
 returns-2 : tie.Need-returns-2 Inv-loop μ-loop
 returns-2 c =
-    let at = c .before .before .before .before .before .loop in
-    above-found (c .before .before .before .before .before .before .args .word .now) (at .i) (at .inv .1) (omega arith) (c .if2 .taken)
-
-add-i : tie.Need-add-i Inv-loop μ-loop
-add-i c = omega arith
-
-loop-less : tie.Need-loop-less Inv-loop μ-loop
-loop-less c = omega arith
+    let at = c .before .before .before .before .loop in
+    above-found (c .before .before .before .before .before .args .word .now) (at .i) (at .inv .1) (omega arith) (c .if2 .taken)
 
 loop-again : tie.Need-loop-again Inv-loop μ-loop
 loop-again c =
-    let at = c .before .before .before .before .before .loop in
-    let word = c .before .before .before .before .before .before .args .word .now in
-    (omega arith, sought-more word (at .i) (at .inv .1) (omega arith) (c .before .before .if1 .left) (c .if2 .left))
+    let at = c .before .before .before .before .loop in
+    let word = c .before .before .before .before .before .args .word .now in
+    (omega arith, sought-more word (at .i) (at .inv .1) (omega arith) (c .before .if1 .left) (c .if2 .left))
 
 returns-3 : tie.Need-returns-3 Inv-loop μ-loop
 returns-3 c = let at = c .before .loop in none-found (c .before .before .args .word .now) (at .i) (at .inv .1) (c .loop-test .left)
@@ -49,5 +34,5 @@ returns-3 c = let at = c .before .loop in none-found (c .before .before .args .w
 pub first-other-spec : {M : Type 1} → statement M
 first-other-spec =
     tie.close
-    (tie.spec Inv-loop μ-loop loop-holds shared-slice-read-if1 returns shared-slice-read-if2 returns-2 add-i loop-less loop-again
-    returns-3)
+    (tie.spec Inv-loop μ-loop (λ c. (omega arith, omega arith)) (λ c. omega arith) returns returns-2 (λ c. omega arith)
+    (λ c. omega arith) loop-again returns-3)

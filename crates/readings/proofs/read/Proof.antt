@@ -25,7 +25,7 @@ unfolding judgedBy
 refuses size other = go (eqb size 0) (ltb 64 size) (ltb other size)
   where
     go : (empty long odd : Bool) → (empty || (long || odd)) ≡ true
-        → taken ≡ cond (empty || long) (turnedDown 1 0) (cond odd (turnedDown 2 0) taken)
+        → taken ≡ cond (empty || long) (turnedDown 1 0) (cond odd (turnedDown 2 other) taken)
         → ⊥
     go true long odd test is = apart (cc)
     go false true odd test is = apart (cc)
