@@ -127,8 +127,10 @@ static int answered(int request)
     if (is_text) {
         write_number(lunarbugle_words_stemmed(answer));
         write_number(lunarbugle_words_left(answer));
+    } else if (lunarbugle_number(answer) == 2) {
+        write_number(lunarbugle_other_byte(answer));
     } else {
-        write_number(lunarbugle_number(answer) == 2 ? lunarbugle_other_byte(answer) : lunarbugle_stem_length(answer));
+        write_number(lunarbugle_stem_length(answer));
     }
     fwrite(afterwards, 1, length, stdout);
     return fflush(stdout) == 0; /* so that a call that is stopped takes no earlier answer with it */

@@ -12,8 +12,8 @@ from second.tables import nodes_of
 from sets import Set
 from sheets import damaged, made_groups, made_letters
 from words import damaged as damaged_word
-from words import LENGTHS, SMALL, all_words, found_by_search, made_part, made_word, other_bytes
-from words import published, published_answer
+from words import OTHER_LENGTHS, SMALL, all_words, found_by_search, made_part, made_word
+from words import other_bytes, published, published_answer
 
 
 def sample_runs(_batch):
@@ -99,7 +99,7 @@ def by_rules(request):
 
 SETS = [
     Set("samples", 1, sample_runs, by_rules),
-    Set("other bytes", len(LENGTHS), other_runs, found_by_search),
+    Set("other bytes", len(OTHER_LENGTHS), other_runs, found_by_search),
     Set("made", 24, made_runs, by_rules),
     Set("shipped", 4, shipped_runs, by_rules),
     Set("shipped, short words", 1, short_runs, by_rules),

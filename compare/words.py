@@ -83,11 +83,11 @@ def two_others(length, rng):
         yield bytes(word)
 
 
-LENGTHS = (3, 4, 10, 63, 64, 65)
+OTHER_LENGTHS = (3, 4, 10, 63, 64, 65)
 
 
 def other_bytes(batch):
-    length, rng = LENGTHS[batch], random.Random(f"other bytes {batch}")
+    length, rng = OTHER_LENGTHS[batch], random.Random(f"other bytes {batch}")
     return [(WORD, word) for word in itertools.chain(one_other(length), two_others(length, rng))]
 
 
@@ -159,7 +159,7 @@ SETS = [
     Set("samples", 1, sample_words),
     Set("vocabulary", 1, vocabulary, published_answer, [(WORD, word) for word in READ_OTHERWISE]),
     Set("short", 1, short_words),
-    Set("other bytes", len(LENGTHS), other_bytes, found_by_search),
+    Set("other bytes", len(OTHER_LENGTHS), other_bytes, found_by_search),
     Set("made", 20, made_words),
     Set("long", 1, long_words),
     Set("one run", 1, one_run),

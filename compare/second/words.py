@@ -42,7 +42,7 @@ assert len(SHIPPED) == 9 and sum(len(group.rules) for group in SHIPPED) == 62
 
 @lru_cache(maxsize=1 << 16)
 def word_stem(word):
-    """Request 1: number, stem length or place or 0, the word's place. W-201: a word of one or two letters, once it
-    is not refused, stays as it is."""
+    """Request 1: number, stem length or place or 0, the word's place. W-201: a word of one or two
+    letters, once it is not refused, stays as it is."""
     groups = [] if len(word) <= 2 else SHIPPED
     return run_groups(groups, lambda index, stem: read_group(groups[index], stem), word)
