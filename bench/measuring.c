@@ -1,4 +1,4 @@
-/* What the hosts share: the words of a file, and rounds with their times. */
+/* What the hosts share: the words of a file, a text made of them, and rounds with their times. */
 
 #include "measuring.h"
 
@@ -63,6 +63,28 @@ double round_of_words(stemmer program)
     double ended = now();
     checksum += letters;
     return (ended - began) / word_count;
+}
+
+size_t word_of_text(size_t place)
+{
+    return place * 7919 % word_count;
+}
+
+size_t make_text(uint8_t *text, size_t length)
+{
+    size_t at = 0, place = 0;
+    for (; at < length; place++) {
+        size_t word = word_of_text(place);
+        for (size_t from = starts[word]; from < starts[word + 1] && at < length; from++) {
+            int is_capital = from == starts[word] && place % 8 == 0;
+            text[at++] = is_capital ? words[from] - 'a' + 'A' : words[from];
+        }
+        if (place % 8 == 3 && at < length)
+            text[at++] = ',';
+        if (at < length)
+            text[at++] = ' ';
+    }
+    return place;
 }
 
 double now(void)

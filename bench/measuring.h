@@ -1,4 +1,4 @@
-/* What the hosts share: the words of a file, and rounds with their times. */
+/* What the hosts share: the words of a file, a text made of them, and rounds with their times. */
 #ifndef MEASURING_H
 #define MEASURING_H
 
@@ -29,6 +29,13 @@ struct stem stem_of(stemmer program, size_t word);
 
 /* Nanoseconds a word in a round of a program, in which it stems every word once. */
 double round_of_words(stemmer program);
+
+/* The word that stands in a text at this place among its words, counted from 0: a word's number in the file. The order is scattered. */
+size_t word_of_text(size_t place);
+
+/* Fills a text with words of the file, some with a capital, some with a comma behind; the last may be cut. Returns how many there
+   are. */
+size_t make_text(uint8_t *text, size_t length);
 
 /* Nanoseconds of this process on a processor: what it waits for one does not count. */
 double now(void);

@@ -53,23 +53,6 @@ static struct counts (*const programs[PROGRAMS])(uint8_t *bytes, size_t length) 
 #define SIZES 4
 static const size_t sizes[SIZES] = {1024, 4096, 16384, 65536};
 
-/* Words of the file in a scattered order, some with a capital, some with a comma. */
-static void make_text(void)
-{
-    size_t at = 0;
-    for (size_t i = 0; at < sizeof text; i++) {
-        size_t word = i * 7919 % word_count;
-        for (size_t from = starts[word]; from < starts[word + 1] && at < sizeof text; from++) {
-            int is_capital = from == starts[word] && i % 8 == 0;
-            text[at++] = is_capital ? words[from] - 'a' + 'A' : words[from];
-        }
-        if (i % 8 == 3 && at < sizeof text)
-            text[at++] = ',';
-        if (at < sizeof text)
-            text[at++] = ' ';
-    }
-}
-
 /* A program on all texts of one size. */
 static struct counts run_all(int program, size_t size)
 {
@@ -115,7 +98,7 @@ int main(int count, char **arguments)
 {
     static double times[SIZES][PROGRAMS][MOST_ROUNDS];
     size_t rounds = begin(count, arguments);
-    make_text();
+    make_text(text, sizeof text);
 #ifdef PORTERS
     if (!open_porters())
         return 1;

@@ -1,7 +1,8 @@
 """How a run of `probe` ends: at the end of the input, or with the byte 255 at a request that is cut
 short, unknown or over its bounds; and that a slow pipe gives what a file gives."""
 
-from probing import ENDED, MAKE, NEXT, PROBE, TEXT, WORD
+from list_samples import PLURALS
+from probing import ENDED, LOOKUP, MAKE, NEXT, PROBE, TEXT, TEXT_WITH_LIST, WORD, WORD_WITH_LIST
 from probing import coded_answer, coded_request, raw, slowly, through
 from sets import Result
 
@@ -27,6 +28,25 @@ BAD = {
     "no sheet for lines": coded_request((MAKE, b"group\n", b""))[:-4],
     "a cut sheet for lines": coded_request((MAKE, b"group\n", b"cats"))[:-1],
 }
+
+
+def bad_with_list(kind, longest):
+    """The same for a kind with a list, whose other argument has at most `longest` bytes."""
+    whole = coded_request((kind, PLURALS, b"wolves"))
+    bad = {
+        "no list": whole[:1],
+        "a cut list": whole[:20],
+        "nothing behind a list": whole[:-10],
+        "a cut length behind a list": whole[:-7],
+        "a cut argument behind a list": whole[:-1],
+        "a list of 70,001 bytes": coded_request((kind, bytes(70001), b"wolves")),
+        "too long an argument behind a list": coded_request((kind, PLURALS, bytes(longest + 1))),
+    }
+    return {f"{name}, request {kind}": coded for name, coded in bad.items()}
+
+
+BAD |= bad_with_list(LOOKUP, 4096) | bad_with_list(WORD_WITH_LIST, 4096)
+BAD |= bad_with_list(TEXT_WITH_LIST, 70000)
 
 
 def at_once(coded):

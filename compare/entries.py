@@ -1,9 +1,10 @@
-"""Sets of words and texts for the entries for C: what `probe` is asked, through the program of
-`entries.c`, which takes the same requests."""
+"""Sets of words and texts, with and without a list, for the entries for C: what `probe` is asked,
+through the program of `entries.c`, which takes the same requests."""
 
 import subprocess
 
-from probing import EMULATE, HERE, NEXT
+from lists import SETS as LISTS
+from probing import EMULATE, HERE, UNNUMBERED
 from sets import Set
 from texts import SETS as TEXTS
 from words import SETS as WORDS
@@ -12,6 +13,7 @@ ROOT = HERE.parent
 BUILT = ROOT / "target/compare/entries"
 ENTRIES = [EMULATE, "--static", BUILT]
 MOST_BATCHES = 8  # of a set
+MOST_OF_LISTS = 3
 
 
 def printed(*command):
@@ -31,15 +33,16 @@ def build():
     printed(compiler, *flags, HERE / "entries.c", "target/staticlib/liblunarbugle.a", "-o", BUILT)
 
 
-def through_entries(kind, one):
-    """The set's first batches, but for the next word, which C has no entry for."""
+def through_entries(kind, one, most=MOST_BATCHES):
+    """The set's first batches, but for the next word and the lookup, which C has no entries for."""
 
     def requests(batch):
-        return [request for request in one.requests(batch) if request[0] != NEXT]
+        return [request for request in one.requests(batch) if request[0] not in UNNUMBERED]
 
-    batches = min(one.batches, MOST_BATCHES)
+    batches = min(one.batches, most)
     return Set(f"{kind}, {one.name}", batches, requests, one.third, one.apart, ENTRIES)
 
 
 SETS = [through_entries("words", one) for one in WORDS if one.name != "one run"]
 SETS += [through_entries("texts", one) for one in TEXTS if one.name != "next word"]
+SETS += [through_entries("lists", one, MOST_OF_LISTS) for one in LISTS]

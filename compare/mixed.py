@@ -1,9 +1,10 @@
-"""All seven kinds of request at once, in one run of probe: what one request leaves behind must not
+"""All ten kinds of request at once, in one run of probe: what one request leaves behind must not
 show in the next."""
 
 import random
 
 import lines
+import lists
 import sheets
 import tables
 import texts
@@ -24,6 +25,9 @@ MAKERS = [
     lines.well_formed_lines,
     lines.damaged_lines,
     lines.bounded_lines,
+    lists.well_formed_lists,
+    lists.damaged_lists,
+    lists.bounded_lists,
 ]
 EACH = 250  # requests of a maker in a batch
 

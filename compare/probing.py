@@ -19,6 +19,8 @@ EMULATE = HERE.parent / "tools/emulate"
 PROBE = [EMULATE, HERE.parent / "target/bin/probe"]
 
 WORD, TEXT, NEXT, CHECK, TRANSLATE, RUN, MAKE = range(1, 8)
+LOOKUP, WORD_WITH_LIST, TEXT_WITH_LIST = range(8, 11)
+UNNUMBERED = (NEXT, LOOKUP)  # these return no number of 01's list
 ENDED = b"\xff"  # what probe writes at a request that is cut short, unknown or over its bounds
 
 BY_SECOND = {
@@ -29,6 +31,9 @@ BY_SECOND = {
     TRANSLATE: second.translate_sheet,
     RUN: second.table_run,
     MAKE: second.make_sheet,
+    LOOKUP: second.lookup,
+    WORD_WITH_LIST: second.word_with_list,
+    TEXT_WITH_LIST: second.text_with_list,
 }
 
 
@@ -57,14 +62,17 @@ def coded_request(request):
 
 
 def coded_answer(request, answer):
-    if request[0] == NEXT:  # it returns no number of 01's list
+    if request[0] == NEXT:  # its answer has no first byte
         return b"".join(map(raw, answer))
+    if request[0] == LOOKUP:  # it hands back a part of any length
+        return bytes([answer[0]]) + coded_argument(answer[1])
     return bytes([answer[0]]) + b"".join(map(raw, answer[1:]))
 
 
 def decoded(request, coded):
-    """The answer that these bytes are, for a reader; the bytes themselves if they are too few."""
-    values = 2 if request[0] in (TEXT, NEXT) else 1
+    """The answer that these bytes are, for a reader, with its length before the part that a lookup
+    hands back; the bytes themselves if they are too few."""
+    values = 2 if request[0] in (TEXT, NEXT, TEXT_WITH_LIST) else 1
     first = 0 if request[0] == NEXT else 1
     if len(coded) < first + 4 * values:
         return coded

@@ -4,7 +4,7 @@ against the second program."""
 import time
 from collections import Counter
 
-from probing import NEXT, PROBE, answer_of, coded_answer, coded_request, decoded, through
+from probing import PROBE, UNNUMBERED, answer_of, coded_answer, coded_request, decoded, through
 
 SHOWN = 3  # differences of a set that are shown
 WHOLE = 9000  # characters of a request or an answer that are shown: a word is shown whole
@@ -82,7 +82,7 @@ class Set:
             answer = answer_of(request)
             coded = coded_answer(request, answer)
             result.compared += 1
-            if request[0] != NEXT:  # which returns none of 01's numbers
+            if request[0] not in UNNUMBERED:
                 result.numbers[answer[0]] += 1
             got = coded if alone else wrote[at : at + len(coded)]
             at += len(coded)

@@ -2,7 +2,7 @@
  *
  * Link with liblunarbugle.a (rt staticlib lunarbugle). No entry keeps a pointer, allocates, or reads or writes anything but
  * the bytes it is lent. Every entry takes any bytes and always returns, on a machine that has the stack for it: at most 616
- * bytes for a word and 664 for a text, on x86-64.
+ * bytes for a word, 696 for a word with an exception list and 824 for a text, on x86-64.
  *
  * Numbers returned:
  *   0  done
@@ -11,6 +11,7 @@
  *      stands between words
  *   4  some group's result is longer than the word's place (the shipped rules never give it)
  *   5  the text has more than 65,536 bytes
+ *  10  the exception list has a faulty record. Only the entries with a list give it, and before 1, 2, 4 and 5
  * A refusal, that is any number but 0, leaves every lent byte as it was.
  */
 #ifndef LUNARBUGLE_H
@@ -38,6 +39,35 @@ uint64_t lunarbugle_stem(uint8_t *word, size_t len);
  * no word is cut. */
 uint64_t lunarbugle_text(uint8_t *text, size_t len);
 
+/* An exception list has words with the stems that they are to have, whatever the rules say: wolves with wolf. It is records, one
+ * behind the other, each a two-byte body length, a two-byte kind, the body; numbers are little-endian.
+ *
+ *   length      kind
+ *   1 + n + m   4      a byte n, the n letters of a word, the m letters of its stem
+ *   0           3      the close, and nothing behind it
+ *
+ * A word has 1 to 64 letters and its stem at least one and no more than the word, all of them a to z. Any other record is faulty; so
+ * is a record that is cut short or, where the close is missing, not there: a list of 0 bytes is refused at 0. The first record for a
+ * word counts. The list for wolves alone has 19 bytes; the close by itself is a list without words.
+ *
+ *   0b 00 04 00 06 77 6f 6c 76 65 73 77 6f 6c 66    11 bytes of kind 4: 6, wolves, wolf
+ *   00 00 03 00                                     0 bytes of kind 3
+ *
+ * A listed stem is written as it stands, and not stemmed again. To meet another word it has to be that word's stem: axes is listed
+ * with axi, since lunarbugle_stem makes axi of axis. examples/list makes a list from lines.
+ *
+ * The list is only read, and may not overlap the word or the text. All of it is judged in every call, and a word is looked up from the
+ * first record on: the time of each word grows with the list, and many words are better lent as one text. */
+
+/* lunarbugle_stem with an exception list: a listed word, one of one or two letters too, has its listed stem, any other word the stem
+ * that lunarbugle_stem gives it. Returns what lunarbugle_stem returns, or 10, plus 256 times the offset in the list at which its
+ * first faulty record starts. */
+uint64_t lunarbugle_stem_listed(const uint8_t *list, size_t list_len, uint8_t *word, size_t len);
+
+/* lunarbugle_text with an exception list: each word is looked up after it is made small, and a listed word counts as stemmed.
+ * Returns what lunarbugle_text returns, or 10, plus 256 times that offset, which takes the room of both counts. */
+uint64_t lunarbugle_text_listed(const uint8_t *list, size_t list_len, uint8_t *text, size_t len);
+
 #ifdef __cplusplus
 }
 #endif
@@ -47,6 +77,8 @@ static inline unsigned lunarbugle_number(uint64_t answer)
 {
     return (unsigned)(answer % 256);
 }
+
+/* Each of the following takes an answer of the entry that it names, or of the same entry with a list. */
 
 /* The stem's length in an answer of lunarbugle_stem; 0 for a refusal, whatever its number, so that no place is taken for a length. */
 static inline size_t lunarbugle_stem_length(uint64_t answer)
@@ -60,16 +92,23 @@ static inline size_t lunarbugle_other_byte(uint64_t answer)
     return (size_t)(answer / 256);
 }
 
-/* The words stemmed in an answer of lunarbugle_text. */
+/* The words stemmed in an answer of lunarbugle_text; 0 for a refusal, so that no offset is taken for a count. */
 static inline size_t lunarbugle_words_stemmed(uint64_t answer)
 {
-    return (size_t)(answer / 256 % 16777216);
+    return answer % 256 == 0 ? (size_t)(answer / 256 % 16777216) : 0;
 }
 
-/* The words left in an answer of lunarbugle_text. */
+/* The words left in an answer of lunarbugle_text; 0 for a refusal. */
 static inline size_t lunarbugle_words_left(uint64_t answer)
 {
-    return (size_t)(answer / 4294967296);
+    return answer % 256 == 0 ? (size_t)(answer / 4294967296) : 0;
+}
+
+/* The offset in the list at which its first faulty record starts, in an answer whose number is 10, of a word or of a text: at most
+ * the list's length. */
+static inline size_t lunarbugle_faulty_record(uint64_t answer)
+{
+    return (size_t)(answer / 256);
 }
 
 #endif

@@ -9,6 +9,10 @@ r"""The inputs that the wrong versions name, as a reader writes them:
     run SHEET on cats                          with the table that the sheet makes,
     run SHEET with the table 0 1 0 0 on cats   or with another
     lines "group\nm>0 s -> -\n" into 19 bytes  each of the lent bytes is 7
+    lookup cats in the list cats→cat, close    a word of a list, and its stem, may be in quotes; `bytes` and `×` as in a sheet
+    word cats with the list cats→cat, close
+    text "Cats" with the list cats→cat, close
+    check of the list cats→cat, close          how many words it lists, or the place of its first faulty record
     call numbers::pair(1, 2)                   a function itself; `on the room "cats"` lends it bytes of that name
 """
 
@@ -22,7 +26,8 @@ from pathlib import Path
 ROOT = Path(__file__).resolve().parent.parent
 sys.path.insert(0, str(ROOT / "compare"))
 
-from probing import CHECK, MAKE, NEXT, RUN, TEXT, TRANSLATE, WORD
+from probing import CHECK, LOOKUP, MAKE, NEXT, RUN, TEXT, TEXT_WITH_LIST, TRANSLATE, WORD, WORD_WITH_LIST
+from second.lists import LISTED
 from second.sheets import END, GROUP, RULE, Faulty, read_sheet, record
 from second.tables import nodes_of
 
@@ -45,18 +50,39 @@ def rule_of(text):
     return record(RULE, head + ending.encode() + replacement.encode())
 
 
-def record_of(text):
-    if times := re.match(r"(\d+) × ", text):
-        return record_of(text[times.end() :]) * int(times[1])
-    if text.startswith("bytes "):
-        return bytes.fromhex(text.removeprefix("bytes "))
+def of_sheet(text):
     if gate := re.fullmatch(r"G\(gate (\d+)\)", text):
         return record(GROUP, struct.pack("<H", int(gate[1])))
     return record(END, b"") if text == "end" else rule_of(text)
 
 
+def of_list(text):
+    if text == "close":
+        return record(END, b"")
+    parts = re.fullmatch(f"({BYTES})→({BYTES})?", text)
+    if not parts:
+        raise ValueError(f"not a record of a list: {text}")
+    word, stem = map(bytes_of, parts.groups(default=""))
+    return record(LISTED, bytes([len(word)]) + word + stem)
+
+
+def record_of(text, made):
+    if times := re.match(r"(\d+) × ", text):
+        return record_of(text[times.end() :], made) * int(times[1])
+    return bytes.fromhex(text.removeprefix("bytes ")) if text.startswith("bytes ") else made(text)
+
+
+def records_of(text, made):
+    """The bytes of records; `made` reads one that is not given by its bytes."""
+    return b"".join(record_of(part, made) for part in text.split(", ") if part)
+
+
 def sheet_of(text):
-    return b"".join(map(record_of, filter(None, text.split(", "))))
+    return records_of(text, of_sheet)
+
+
+def list_of(text):
+    return records_of(text, of_list)
 
 
 def table_of(sheet):
@@ -72,6 +98,19 @@ def run_request(sheet, table, word):
     return RUN, sheet, list(map(int, table.split())) if table else table_of(sheet), bytes_of(word)
 
 
+@dataclass
+class Call:
+    path: str  # of the function, such as numbers::pair
+    expression: str
+    room: str  # bytes that are lent, or nothing
+
+
+def check_of_list(exceptions):
+    """No request reaches the check of a list alone."""
+    listed = ", ".join(f"{byte}u8" for byte in list_of(exceptions))
+    return Call("lists::check", f"lists::check(&[{listed}])", "")
+
+
 REQUESTS = [
     (f"word ({BYTES})", lambda word: (WORD, bytes_of(word))),
     (f"text ({BYTES})", lambda text: (TEXT, bytes_of(text))),
@@ -80,14 +119,11 @@ REQUESTS = [
     (r"translate (.*) into (\d+) numbers", lambda sheet, count: (TRANSLATE, sheet_of(sheet), [7] * int(count))),
     (rf"run (.*?)(?: with the table ([\d ]+))? on ({BYTES})", run_request),
     (rf"lines ({BYTES}) into (\d+) bytes", lambda lines, count: (MAKE, bytes_of(lines), b"\7" * int(count))),
+    (rf"lookup ({BYTES}) in the list (.*)", lambda word, exceptions: (LOOKUP, list_of(exceptions), bytes_of(word))),
+    (rf"word ({BYTES}) with the list (.*)", lambda word, exceptions: (WORD_WITH_LIST, list_of(exceptions), bytes_of(word))),
+    (rf"text ({BYTES}) with the list (.*)", lambda text, exceptions: (TEXT_WITH_LIST, list_of(exceptions), bytes_of(text))),
+    ("check of the list (.*)", check_of_list),
 ]
-
-
-@dataclass
-class Call:
-    path: str  # of the function, such as numbers::pair
-    expression: str
-    room: str  # bytes that are lent, or nothing
 
 
 def input_of(shown):
@@ -125,6 +161,9 @@ def written(kind):
         "&[u8]": "output::bytes(result);",
         "Ran": "let reply = answers::of_run(result); output::reply(reply.number, reply.value);",
         "Run": "output::number(result.end); output::byte(if result.small { 1 } else { 0 });",
+        "ListChecked": "let reply = answers::of_listed_word(match result { answers::ListChecked::Accepted(count) => "
+        "answers::ListedWord::Word(answers::Answer::Done(count)), answers::ListChecked::Refused(place) => "
+        "answers::ListedWord::Refused(place) }); output::reply(reply.number, reply.value);",
     }[kind]
 
 
@@ -161,13 +200,13 @@ fn main() {{
 def values_of(call, coded):
     """What the program of a call wrote: its result and the room."""
     kind = result_of(call)
-    size = {"": 0, "bool": 1, "u8": 1, "usize": 4, "u64": 8, "Ran": 5, "Run": 5}.get(kind, len(coded))
+    size = {"": 0, "bool": 1, "u8": 1, "usize": 4, "u64": 8, "Ran": 5, "Run": 5, "ListChecked": 5}.get(kind, len(coded))
     result, room = coded[:size], coded[size:]
     if len(result) < size:
         return [coded]
     if kind.startswith("[u16"):
         values = [list(struct.unpack(f"<{size // 2}H", result))]
-    elif kind == "Ran":
+    elif kind in ("Ran", "ListChecked"):
         values = list(struct.unpack("<BI", result))
     elif kind == "Run":
         values = [int.from_bytes(result[:4], "little"), "true" if result[4] else "false"]

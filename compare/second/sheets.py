@@ -1,4 +1,4 @@
-"""The sheet: its records read, and its check."""
+"""The sheet: records and how they follow each other, its own records read, and its check."""
 
 import struct
 
@@ -8,11 +8,30 @@ GROUP, RULE, END = 1, 2, 3  # kinds
 
 
 class Faulty(Exception):
-    """A sheet has a faulty record; `place` is the offset where the first one starts."""
+    """There is a faulty record; `place` is the offset where the first one starts."""
 
     def __init__(self, place):
         super().__init__(place)
         self.place = place
+
+
+def records_of(content):
+    """The place, the kind and the body of each record before the end; raises Faulty at one that is
+    cut short, and at an end with a body or with bytes after it."""
+    place = 0
+    while True:
+        if len(content) - place < 4:
+            raise Faulty(place)
+        size, kind = struct.unpack_from("<HH", content, place)
+        after = place + 4 + size
+        if after > len(content):
+            raise Faulty(place)
+        if kind == END:
+            if size != 0 or after != len(content):
+                raise Faulty(place)
+            return
+        yield place, kind, content[place + 4 : after]
+        place = after
 
 
 def read_rule(body):
@@ -32,18 +51,11 @@ def read_rule(body):
 
 def read_sheet(sheet):
     """The groups of a sheet; raises Faulty at its first faulty record."""
-    groups, rule_count, place = [], 0, 0
-    while True:
-        if len(sheet) - place < 4:
-            raise Faulty(place)
-        size, kind = struct.unpack_from("<HH", sheet, place)
-        body = sheet[place + 4 : place + 4 + size]
-        after = place + 4 + size
-        if after > len(sheet):
-            raise Faulty(place)
+    groups, rule_count = [], 0
+    for place, kind, body in records_of(sheet):
         if kind == GROUP:
             gate = int.from_bytes(body, "little")
-            if size != 2 or gate > 1 or (gate == 1 and not groups) or len(groups) == 16:
+            if len(body) != 2 or gate > 1 or (gate == 1 and not groups) or len(groups) == 16:
                 raise Faulty(place)
             groups.append(Group(gate, []))
         elif kind == RULE:
@@ -52,13 +64,9 @@ def read_sheet(sheet):
                 raise Faulty(place)
             groups[-1].rules.append(rule)
             rule_count += 1
-        elif kind == END:
-            if size != 0 or after != len(sheet):
-                raise Faulty(place)
-            return groups
         else:
             raise Faulty(place)
-        place = after
+    return groups
 
 
 def node_count(groups):

@@ -14,13 +14,14 @@ def next_word(text, start):
     return (found.start(), len(found[0])) if found else (len(text), 0)
 
 
-def stemmed_text(text):
-    """Words stemmed, words left, and the text, which may have any length."""
+def stemmed_text(text, stem=word_stem):
+    """Words stemmed, words left, and the text, which may have any length. `stem(word)` answers as
+    request 1 does, by the rules or with a list."""
     stemmed = left = 0
 
     def rewritten(found):
         nonlocal stemmed, left
-        number, _, place = word_stem(found[0].lower())
+        number, _, place = stem(found[0].lower())
         if number != 0:
             left += 1
             return found[0]
@@ -31,6 +32,6 @@ def stemmed_text(text):
     return stemmed, left, text
 
 
-def text_run(text):
+def text_run(text, stem=word_stem):
     """Request 2: number, words stemmed, words left, the text."""
-    return (5, 0, 0, text) if len(text) > 65536 else (0, *stemmed_text(text))
+    return (5, 0, 0, text) if len(text) > 65536 else (0, *stemmed_text(text, stem))

@@ -1,6 +1,8 @@
 /* Stems a file of any size with lunarbugle_text, which takes at most 65,536 bytes at a time.
  *
- *     stem_file [FILE]        reads FILE or standard input, writes the text after the run to standard output
+ *     stem_file [--list LIST] [FILE]        reads FILE or standard input, writes the text after the run to standard output
+ *
+ * LIST has the bytes of an exception list, which examples/list/make makes from lines.
  *
  * The file is cut only where no word is cut: behind a byte that is no letter. What the text run does at one word does not
  * depend on the rest of the text (crates/texts, the laws `run-cut` and `run-word`), so the pieces one after the other are what
@@ -19,7 +21,10 @@
 
 #include "lunarbugle.h"
 
-enum { PIECE = LUNARBUGLE_TEXT_MOST };
+enum { PIECE = LUNARBUGLE_TEXT_MOST, LIST_MOST = 1 << 20 };
+
+static uint8_t list[LIST_MOST + 1]; /* the exception list, accepted; 0 bytes of it if none was named */
+static size_t list_length;
 
 struct totals {
     uint64_t bytes;
@@ -55,7 +60,8 @@ static int write_piece(const uint8_t *bytes, size_t length, struct totals *total
 
 static int stem_piece(uint8_t *bytes, size_t length, struct totals *totals)
 {
-    uint64_t answer = lunarbugle_text(bytes, length);
+    uint64_t answer = list_length == 0 ? lunarbugle_text(bytes, length)
+                                       : lunarbugle_text_listed(list, list_length, bytes, length);
     totals->stemmed += lunarbugle_words_stemmed(answer);
     totals->left += lunarbugle_words_left(answer);
     return write_piece(bytes, length, totals);
@@ -113,11 +119,33 @@ static int fail(const char *what)
     return 1;
 }
 
+/* Reads the exception list, and answers the exit status. An empty text tells whether the list is faulty, before a word is stemmed. */
+static int read_list(const char *name)
+{
+    uint8_t no_text[1] = {0};
+    FILE *file = fopen(name, "rb");
+    if (!file) return fail(name);
+    list_length = fread(list, 1, sizeof list, file);
+    if (ferror(file)) return fail(name);
+    fclose(file);
+    errno = EFBIG;
+    if (list_length > LIST_MOST) return fail(name);
+    uint64_t answer = lunarbugle_text_listed(list, list_length, no_text, 0);
+    if (lunarbugle_number(answer) != 10) return 0;
+    fprintf(stderr, "stem_file: %s: the record at %zu is faulty\n", name, lunarbugle_faulty_record(answer));
+    return 1;
+}
+
 int main(int count, char **words)
 {
     struct totals totals = {0, 0, 0};
+    if (count > 2 && strcmp(words[1], "--list") == 0) {
+        if (read_list(words[2]) != 0) return 1;
+        count -= 2;
+        words += 2;
+    }
     if (count > 2) {
-        fprintf(stderr, "usage: stem_file [FILE]\n");
+        fprintf(stderr, "usage: stem_file [--list LIST] [FILE]\n");
         return 1;
     }
     const char *name = count == 2 ? words[1] : "standard input";

@@ -7,6 +7,7 @@ use Rattle.paper.specs.Settled.{Told, settled}
 use Rattle.paper.specs.Words.{Judgement, taken, turnedDown}
 use Rattle.answers.specs.Answers.{numberOf, valueOf, judgementOf, Check, tells, numberOfTranslated, valueOfTranslated}
 use Rattle.answers.specs.Answers.{numberOfMade, valueOfMade, numberOfRan, valueOfRan}
+use Rattle.answers.specs.Answers.{Said, saysList, numberOfListed, valueOfListed}
 use Rattle.answers.specs.declared.Answer.{Answer}
 use Rattle.answers.specs.declared.Answer.the-variants.{Done, WrongLength, OtherByte, Outgrown}
 use Rattle.answers.specs.declared.Judged.{Judged}
@@ -19,6 +20,10 @@ use Rattle.answers.specs.declared.Translated.{Translated}
 use Rattle.answers.specs.declared.Translated.the-variants.{Nodes, Refused as Untranslated, Short}
 use Rattle.answers.specs.declared.Ran.{Ran}
 use Rattle.answers.specs.declared.Ran.the-variants.{Word, Refused as Unread, Table}
+use Rattle.answers.specs.declared.ListChecked.{ListChecked}
+use Rattle.answers.specs.declared.ListChecked.the-variants.{Accepted as Taken-in, Refused as Faulty-list}
+use Rattle.answers.specs.declared.ListedWord.{ListedWord}
+use Rattle.answers.specs.declared.ListedWord.the-variants.{Word as Of-word, Refused as No-word}
 
 -- ## A word
 
@@ -103,3 +108,30 @@ ran-is Table = refl
 
 abbrev pub runs : Told Ran
 runs = record { number = numberOfRan; value = valueOfRan; back = ranOf; back-is = ran-is }
+
+-- ## An exception list, and a word with one
+
+unfoldable listSaid : Said → ListChecked
+listSaid said = cond (eqb (said .number) 0) (Taken-in (said .value)) (Faulty-list (said .value))
+
+list-is : (answer : ListChecked) → listSaid (saysList answer) ≡ answer
+unfolding listSaid
+list-is (Taken-in count) = refl
+list-is (Faulty-list place) = refl
+
+pub list-one : {said : Said} (one other : ListChecked) → saysList one ≡ said → saysList other ≡ said → one ≡ other
+list-one one other is also = sym (list-is one) ∙ ap listSaid (settled is also) ∙ list-is other
+
+unfoldable pub listedOf : ℕ → ℕ → ListedWord
+listedOf number value = cond (eqb number 10) (No-word value) (Of-word (answerOf number value))
+
+pub listed-is : (answer : ListedWord) → listedOf (numberOfListed answer) (valueOfListed answer) ≡ answer
+unfolding listedOf answerOf
+listed-is (Of-word (Done size)) = refl
+listed-is (Of-word WrongLength) = refl
+listed-is (Of-word (OtherByte place)) = refl
+listed-is (Of-word Outgrown) = refl
+listed-is (No-word place) = refl
+
+abbrev pub listedWords : Told ListedWord
+listedWords = record { number = numberOfListed; value = valueOfListed; back = listedOf; back-is = listed-is }

@@ -15,6 +15,12 @@ use Rattle.answers.specs.declared.Translated.{Translated}
 use Rattle.answers.specs.declared.Translated.the-variants.{Nodes, Refused as Untranslated, Short}
 use Rattle.answers.specs.declared.Ran.{Ran}
 use Rattle.answers.specs.declared.Ran.the-variants.{Word, Refused as Unread, Table}
+use Rattle.answers.specs.declared.ListChecked.{ListChecked}
+use Rattle.answers.specs.declared.ListChecked.the-variants.{Accepted as Taken-in, Refused as Faulty-list}
+use Rattle.answers.specs.declared.ListedWord.{ListedWord}
+use Rattle.answers.specs.declared.ListedWord.the-variants.{Word as Of-word, Refused as No-word}
+use Rattle.answers.specs.declared.ListedText.{ListedText}
+use Rattle.answers.specs.declared.ListedText.the-variants.{Text as Of-text, Refused as No-text}
 
 -- ## A word
 
@@ -111,3 +117,37 @@ abbrev pub valueOfRan : Ran → ℕ
 valueOfRan (Word answer) = valueOf answer
 valueOfRan (Unread place) = place
 valueOfRan Table = 0
+
+-- ## An exception list
+
+-- a number, and the value returned besides it
+pub record Said : Type 0 where
+  pub number : ℕ
+  pub value : ℕ
+
+-- document 02, W-205: "10, a faulty list, with the offset of its first faulty record (and 0 in a text)"; 0 with how many records it has
+abbrev pub saysList : ListChecked → Said
+saysList (Taken-in count) = record { number = 0; value = count }
+saysList (Faulty-list place) = record { number = 10; value = place }
+
+-- ## A word, and a text, with one
+
+abbrev pub numberOfListed : ListedWord → ℕ
+numberOfListed (Of-word answer) = numberOf answer
+numberOfListed (No-word place) = 10
+
+abbrev pub valueOfListed : ListedWord → ℕ
+valueOfListed (Of-word answer) = valueOf answer
+valueOfListed (No-word place) = place
+
+abbrev pub numberOfListedText : ListedText → ℕ
+numberOfListedText (Of-text answer) = numberOfText answer
+numberOfListedText (No-text place) = 10
+
+abbrev pub stemmedOfListed : ListedText → ℕ
+stemmedOfListed (Of-text answer) = stemmedOf answer
+stemmedOfListed (No-text place) = place
+
+abbrev pub leftOfListed : ListedText → ℕ
+leftOfListed (Of-text answer) = leftOf answer
+leftOfListed (No-text place) = 0

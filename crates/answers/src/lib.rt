@@ -3,6 +3,7 @@ ghost use mathlib.Core.Path.{_≡_};
 ghost use Rattle.paper.specs.Words.{judged, judgedBy};
 ghost use Rattle.answers.specs.Answers.{numberOf, valueOf, numberOfText, stemmedOf, leftOf};
 ghost use Rattle.answers.specs.Answers.{numberOfMade, valueOfMade};
+ghost use Rattle.answers.specs.Answers.{numberOfListed, valueOfListed, numberOfListedText, stemmedOfListed, leftOfListed};
 ghost use Rattle.answers.specs.Answers.{tells, numberOfTranslated, valueOfTranslated, numberOfRan, valueOfRan, judgementOf};
 
 // What a call on a word answers.
@@ -61,6 +62,30 @@ pub enum Ran {
     Refused(usize),
     // 7: the table is not the sheet's.
     Table,
+}
+
+// What a check of an exception list answers.
+pub enum ListChecked {
+    // 0: how many words it lists, each record counted.
+    Accepted(usize),
+    // 10: the place where the first faulty record starts.
+    Refused(usize),
+}
+
+// What a call on a word with an exception list answers.
+pub enum ListedWord {
+    // 0, 1, 2, 4: what the call on the word answers.
+    Word(Answer),
+    // 10: the place of the list's first faulty record.
+    Refused(usize),
+}
+
+// What the text run with an exception list answers.
+pub enum ListedText {
+    // 0, 5: what the text run answers.
+    Text(TextRun),
+    // 10: the place of the list's first faulty record.
+    Refused(usize),
 }
 
 // What is said of a word before it is read.
@@ -216,6 +241,34 @@ pub fn of_run(answer: Ran) -> Reply
         Ran::Table => Reply {
             number: 7,
             value: 0,
+        },
+    }
+}
+
+pub fn of_listed_word(answer: ListedWord) -> Reply
+    ensures { λ r. ⌜ r .number ≡ numberOfListed answer ⌝ }
+    ensures { λ r. ⌜ r .value ≡ valueOfListed answer ⌝ }
+{
+    match answer {
+        ListedWord::Word(word) => of_word(word),
+        ListedWord::Refused(offset) => Reply {
+            number: 10,
+            value: offset,
+        },
+    }
+}
+
+pub fn of_listed_text(answer: ListedText) -> TextReply
+    ensures { λ r. ⌜ r .number ≡ numberOfListedText answer ⌝ }
+    ensures { λ r. ⌜ r .stemmed ≡ stemmedOfListed answer ⌝ }
+    ensures { λ r. ⌜ r .left ≡ leftOfListed answer ⌝ }
+{
+    match answer {
+        ListedText::Text(text) => of_text(text),
+        ListedText::Refused(offset) => TextReply {
+            number: 10,
+            stemmed: offset,
+            left: 0,
         },
     }
 }

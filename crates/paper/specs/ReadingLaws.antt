@@ -16,18 +16,18 @@ use Rattle.paper.specs.Groups.{Rule, endsWith, before, which, first, fit
 
 -- ## The rules that pass a test, and the first of them
 
--- every rule of the list passes the test
-unfoldable pub every : (Rule → Bool) → List Rule → Bool
+-- every element of a list, as every rule, passes the test
+unfoldable pub every : {A : Type 0} → (A → Bool) → List A → Bool
 every test [] = true
-every test (rule ∷ rules) = test rule && every test rules
+every test (one ∷ others) = test one && every test others
 
 pub every-in :
-    (test : Rule → Bool) (rules : List Rule) {rule : Rule} → every test rules ≡ true → List·Memᴰ rule rules → test rule ≡ true
+    {A : Type 0} (test : A → Bool) (list : List A) {one : A} → every test list ≡ true → List·Memᴰ one list → test one ≡ true
 unfolding every
 every-in test [] all m = absurd (List·Memᴰ·not-nil m)
-every-in test (one ∷ rules) all m =
-    let both = and-parts (test one) (every test rules) all in
-    ⊎-elim (λ same. ap test same ∙ both .0) (λ later. every-in test rules (both .1) later) (List·Memᴰ·cases-cons m)
+every-in test (first ∷ others) all m =
+    let both = and-parts (test first) (every test others) all in
+    ⊎-elim (λ same. ap test same ∙ both .0) (λ later. every-in test others (both .1) later) (List·Memᴰ·cases-cons m)
 
 -- no rule of the list passes the test
 pub data NonePass (test : Rule → Bool) : List Rule → Type 0 where

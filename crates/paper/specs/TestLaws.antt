@@ -33,6 +33,16 @@ and-parts a b e = (and-left a b e, and-right a b e)
 pub and-both : {a b : Bool} → a ≡ true → b ≡ true → (a && b) ≡ true
 and-both p q = rw (p, q)
 
+-- six that all hold
+pub all-of-six : (a b c d e f : Bool) → a && b && c && d && e && f ≡ true
+    → (a ≡ true) × (b ≡ true) × (c ≡ true) × (d ≡ true) × (e ≡ true) × (f ≡ true)
+all-of-six true true true true true f h = (refl, refl, refl, refl, refl, h)
+all-of-six true true true true false f h = absurd (false≢true h)
+all-of-six true true true false e f h = absurd (false≢true h)
+all-of-six true true false d e f h = absurd (false≢true h)
+all-of-six true false c d e f h = absurd (false≢true h)
+all-of-six false b c d e f h = absurd (false≢true h)
+
 -- two tests of which one holds, and of which neither does
 pub or-left : (a b : Bool) → a ≡ true → (a || b) ≡ true
 or-left a b e = rw e

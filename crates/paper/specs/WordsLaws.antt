@@ -3,7 +3,7 @@
 use Prim.Native.Nat.{ℕ, suc, _-_, _≤_, _<_, compare·suc-suc}
 use native.Mathlib.Omega.{arith}
 use mathlib.Core.Path.{_≡_, refl, sym}
-use mathlib.Core.Bool.{Bool, true, false, cond, not}
+use mathlib.Core.Bool.{Bool, true, false, cond, not, _&&_}
 use mathlib.Core.List.{List, [], _∷_, _++_, append-nil}
 use lib.Dec.{eqb, ltb}
 use lib.ListN.{length, take, drop, getD, replicate}
@@ -13,6 +13,14 @@ use Rattle.paper.specs.Groups.{Group, Reading, done, outgrown}
 use Rattle.paper.specs.TestLaws.{by-test, and-parts, or-right, neither-right}
 use Rattle.paper.specs.Words.{readWord, stem, placed, wrongLength, small, allSmall, firstOther, Gives}
 use Rattle.paper.specs.Words.{taken, turnedDown, judged, judgedBy, readingOutcome, judgedOutcome, wordOutcome}
+
+-- ## Small letters behind others
+
+pub all-small-append : (one other : List ℕ) → allSmall (one ++ other) ≡ (allSmall one && allSmall other)
+unfolding allSmall
+all-small-append [] other = refl
+all-small-append (byte ∷ bytes) other =
+    by-test (small byte) (λ is. rw is (all-small-append bytes other)) (λ is-not. rw is-not)
 
 -- ## The first byte outside a to z
 

@@ -1,18 +1,18 @@
 // The test driver: answers requests on standard input, so that anyone can hold every public entry
 // against another implementation. It checks nothing itself.
 //
-// A request is one byte and its arguments; each kind of request has a file of its own. At a request
-// that is cut short, has another first byte or an argument over its bound, the program writes the
-// byte 255 and ends.
-mod lines;
-mod sheet;
-mod table;
-mod text;
-mod word;
-
+// A request is one byte and its arguments; each kind of request has a file of its own, in
+// `requests_words` and `requests_sheets`. At a request that is cut short, has another first byte or
+// an argument over its bound, the program writes the byte 255 and ends.
 use requests::input;
 use requests::input::Start;
 use requests::output;
+use requests_sheets::lines;
+use requests_sheets::sheet;
+use requests_sheets::table;
+use requests_words::list;
+use requests_words::text;
+use requests_words::word;
 
 // Answers the request that begins with this byte, and says whether it was whole and known.
 fn answered(kind: u8) -> bool {
@@ -24,6 +24,8 @@ fn answered(kind: u8) -> bool {
         5 => table::answered_translation(),
         6 => table::answered_run(),
         7 => lines::answered(),
+        8 | 9 => list::answered_word(kind),
+        10 => list::answered_text(),
         _ => false,
     }
 }

@@ -1,15 +1,18 @@
 -- The record at a place, case by case of its frame, whatever is told of each kind.
 use Prim.Native.Nat.{ℕ, _-_}
 use mathlib.Core.Path.{_≡_, sym, _∙_}
-use mathlib.Core.Bool.{true}
+use mathlib.Core.Bool.{true, not, _||_}
 use mathlib.Core.List.{List}
-use borrow.Author.Tests.{ne-eqb}
-use lib.ListN.{take, drop}
+use native.Mathlib.Omega.{arith}
+use borrow.Author.Tests.{eq-eqb, ne-eqb, eqb-true}
+use lib.Dec.{eqb}
+use lib.ListN.{length, take, drop, length-drop}
+use Rattle.paper.specs.TestLaws.{test-ext}
 use Rattle.records.specs.declared.Record.{Record}
 use Rattle.records.specs.declared.Record.the-variants.{Faulty}
-use Rattle.records.specs.Framing.{cut}
-use Rattle.records.specs.FramingLaws.{FramedAt}
-use Rattle.records.specs.Records.{byKind}
+use Rattle.records.specs.Framing.{bodyLength, recordLength, after, cut, bodyPlace, nextPlace}
+use Rattle.records.specs.FramingLaws.{FramedAt, length-after}
+use Rattle.records.specs.Records.{faultyEnd, byKind}
 use Rattle.records.specs.RecordAnswers.{byFrame}
 use Rattle.records.specs.RecordLaws.{at-group, at-rule, at-end}
 
@@ -34,3 +37,30 @@ module _ (ofGroup ofRule : ℕ → List ℕ → Record) (ofEnd : List ℕ → Re
     unfolding byKind
     frame-other not-one not-two not-three =
         simp (is .whole, ← is .kind-is, ne-eqb k 1 not-one, ne-eqb k 2 not-two, ne-eqb k 3 not-three)
+
+-- ## An end, by the places between which its body stands
+
+module _ (bytes : List ℕ) (at : ℕ) {k b next : ℕ} (is : FramedAt bytes at k b next) where
+  no-body : eqb next b ≡ eqb (bodyLength (drop at bytes)) 0
+  unfolding bodyPlace nextPlace recordLength
+  no-body =
+      let first = is .place-is in
+      let last = is .next-is in
+      let size : ℕ = bodyLength (drop at bytes) in
+      test-ext (eqb next b) (eqb size 0) (λ e. eq-eqb size 0 (omega (arith, eqb-true next b e)))
+      (λ e. eq-eqb next b (omega (arith, eqb-true size 0 e)))
+
+  nothing-after : eqb next (length bytes) ≡ eqb (length (after (drop at bytes))) 0
+  unfolding nextPlace
+  nothing-after =
+      let last = is .next-is in
+      let inside = is .inside in
+      let left = length-after (drop at bytes) in
+      let size = length-drop at bytes in
+      let more : ℕ = length (after (drop at bytes)) in
+      test-ext (eqb next (length bytes)) (eqb more 0) (λ e. eq-eqb more 0 (omega (arith, eqb-true next (length bytes) e)))
+      (λ e. eq-eqb next (length bytes) (omega (arith, eqb-true more 0 e)))
+
+  pub end-judged : (not (eqb next b) || not (eqb next (length bytes))) ≡ faultyEnd (drop at bytes)
+  unfolding faultyEnd
+  end-judged = rw (no-body, nothing-after)

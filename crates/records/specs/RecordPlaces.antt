@@ -1,14 +1,14 @@
 -- What the record at a place of a sheet says to a caller: where the next record starts, and of a rule where its letters stand.
-use Prim.Native.Nat.{ℕ, zero, suc, _+_, _-_, _≤_, _<_}
+use Prim.Native.Nat.{ℕ, _+_, _-_, _≤_, _<_}
 use mathlib.Core.Path.{_≡_, refl, sym, ap, subst, _∙_}
 use mathlib.Core.Bool.{true, cond}
-use mathlib.Core.List.{List, [], _∷_}
-use native.Mathlib.Nat.{sub-zero, zero-sub, suc-sub-suc}
+use mathlib.Core.List.{List}
 use native.Mathlib.Omega.{arith}
 use lib.Dec.{eqb}
 use lib.ListN.{length, take, drop}
-use lib.Seq.{drop-drop, drop-nil, take-nil, take-take}
+use lib.Seq.{drop-drop, take-take}
 use Rattle.paper.specs.Groups.{replace, single-letter, Rule, always, if-opened}
+use Rattle.paper.specs.ListLaws.{drop-take}
 use Rattle.paper.specs.TestLaws.{by-test}
 use Rattle.records.specs.Framing.{kind, body, cut, bodyPlace, nextPlace}
 use Rattle.records.specs.FramingLaws.{body-there, next-by-body, next-inside}
@@ -50,12 +50,6 @@ pub record RuleAt (sheet : List ℕ) (at c a o start middle next : ℕ) : Type 0
   pub facts : RuleFacts sheet c a o start middle next (rule (body (drop at sheet)))
   pub next-is : next ≡ nextPlace sheet at
   pub forward : at < next
-
-drop-take : (n m : ℕ) (list : List ℕ) → drop n (take m list) ≡ take (m - n) (drop n list)
-drop-take zero m list = rw sub-zero
-drop-take (suc n) zero list = rw (drop-nil, zero-sub)
-drop-take (suc n) (suc m) [] = rw take-nil
-drop-take (suc n) (suc m) (x ∷ list) = drop-take n m list ∙ rw suc-sub-suc
 
 module _ (sheet : List ℕ) (at : ℕ) where
   abbrev rest : List ℕ

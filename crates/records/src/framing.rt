@@ -1,6 +1,9 @@
 // The frame of the record at a place: "Records, each a two-byte body length, a two-byte kind, then the body". Any bytes and any
 // place may be given.
 ghost use mathlib.Core.Path.{_≡_};
+ghost use mathlib.Core.Bool.{not, _||_};
+ghost use lib.Dec.{eqb};
+ghost use lib.ListN.{length};
 ghost use Rattle.records.specs.Framing.{frameAt};
 use numbers::pair;
 
@@ -33,4 +36,11 @@ pub fn frame_at(bytes: &[u8], at: usize) -> Frame
     let kind = pair(bytes[at + 2], bytes[at + 3]);
     let next = body + size;
     Frame::Whole { kind, body, next }
+}
+
+// "an end with a body or with bytes after it", of a record whose body stands between these places.
+pub fn faulty_end(bytes: &[u8], body: usize, next: usize) -> bool
+    ensures { λ r. ⌜ r ≡ not (eqb next body) || not (eqb next (length (now (bytes .entry)))) ⌝ }
+{
+    (next != body) | (next != bytes.len())
 }

@@ -9,6 +9,7 @@ pub mod reader;
 pub mod rules;
 
 use framing::Frame;
+use framing::faulty_end;
 use framing::frame_at;
 use numbers::pair;
 use rules::rule_in;
@@ -65,10 +66,7 @@ pub fn record_at(sheet: &[u8], at: usize) -> Record
             if kind != 3 {
                 return Record::Faulty;
             }
-            if next != body {
-                return Record::Faulty;
-            }
-            if next != sheet.len() {
+            if faulty_end(sheet, body, next) {
                 return Record::Faulty;
             }
             Record::End

@@ -14,7 +14,7 @@ use Rattle.paper.specs.LengthLaws.{NeverLengthens}
 use Rattle.paper.specs.TestLaws.{by-test}
 use Rattle.pieces.specs.Pieces.{isLetter, pieces}
 use Rattle.texts.specs.Texts.{Outcome, runText, refused, finished, textOutcome}
-use Rattle.texts.specs.TextAnswers.{Gives}
+use Rattle.texts.specs.TextAnswers.{Answered}
 use Rattle.texts.specs.TextsLaws.{wordCount, words-within, counts-add-up, length-stays, others-stay}
 use Rattle.answers.specs.declared.TextRun.the-variants.{Done, TooLong}
 
@@ -38,13 +38,13 @@ module _ (rule : List ℕ → Reading) (text : List ℕ) where
 
   -- ## What a call gives, by the text's length
 
-  pub gives-refused : 65536 < length text → Gives (textOutcome rule text) TooLong text
+  pub gives-refused : 65536 < length text → Answered (textOutcome rule text) TooLong text
   gives-refused long =
       rw (refused-over long) (record { number-is = refl; stemmed-is = refl; left-is = refl; text-is = refl })
 
   pub gives-done : {after : List ℕ} {stemmed left : ℕ} → length text ≤ 65536
       → runText rule text ≡ record { text = after; stemmed = stemmed; left = left }
-      → Gives (textOutcome rule text) (Done stemmed left) after
+      → Answered (textOutcome rule text) (Done stemmed left) after
   gives-done short ran =
       rw (finished-within short, ran) (record { number-is = refl; stemmed-is = refl; left-is = refl; text-is = refl })
 
