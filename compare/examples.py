@@ -44,8 +44,8 @@ def on_file(program, content, *arguments):
 def sheet_example():
     """Document 01's two example tables, the shipped rules as bytes and as lines, words that are
     done and refused, a faulty record, and lines that are refused."""
-    drops_s = "check: 0, 2 nodes\ntable: (0,1,0,0) (115,0,0,1)\ncats: 0, 3, b'cat '\ns: 0, 0, b' '\n"
-    eed = "check: 0, 4 nodes\ntable: (0,1,0,0) (100,2,0,0) (101,3,0,2) (101,0,0,1)\n"
+    drops_s = "check: 0, 2 nodes\ntable: (0,1,1,0) (115,0,0,1)\ncats: 0, 3, b'cat '\ns: 0, 0, b' '\n"
+    eed = "check: 0, 4 nodes\ntable: (0,1,1,0) (100,2,1,0) (101,3,1,2) (101,0,0,1)\n"
     eed += "feed: 0, 4, b'feed'\nfe3d: 2, the byte at 2 is outside a to z: b'3'\n"
     eed += "Fed: 2, the byte at 0 is outside a to z: b'F'\n"
     nodes = nodes_of(SHIPPED)

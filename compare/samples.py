@@ -85,8 +85,25 @@ CLOSE = record(END, b"")
 SHEET_19 = ALWAYS + rule(b"s") + CLOSE
 assert SHEET_19 == bytes.fromhex("02000100 0000 05000200 000000 01 73 00000300")
 SHEET_EED = ALWAYS + rule(b"eed", b"ee", 1) + rule(b"ed", b"", 3, opens=1) + CLOSE
-TABLE_19 = [0, 1, 0, 0, 115, 0, 0, 1]
-TABLE_EED = [0, 1, 0, 0, 100, 2, 0, 0, 101, 3, 0, 2, 101, 0, 0, 1]
+TABLE_19 = [0, 1, 1, 0, 115, 0, 0, 1]
+TABLE_EED = [0, 1, 1, 0, 100, 2, 1, 0, 101, 3, 1, 2, 101, 0, 0, 1]
+
+# W-206: two groups, whose rules ask for their nodes in another order than the table has them in
+IN_TURN = ALWAYS + rule(b"t") + rule(b"at") + rule(b"s")
+IN_TURN += ALWAYS + rule(b"es", b"e") + rule(b"") + rule(b"is") + rule(b"es") + CLOSE
+TABLE_IN_TURN = [
+    *(0, 2, 2, 0, 0, 4, 1, 5),  # the roots
+    *(115, 0, 0, 3, 116, 5, 1, 1, 115, 6, 2, 0),  # s and t, s
+    *(97, 0, 0, 2, 101, 0, 0, 4, 105, 0, 0, 6),  # at; es and is
+]
+
+# 01's tables before W-206: the third number is the next sibling
+LINKED_19 = [0, 1, 0, 0, 115, 0, 0, 1]
+LINKED_EED = [0, 1, 0, 0, 100, 2, 0, 0, 101, 3, 0, 2, 101, 0, 0, 1]
+LINKED_IN_TURN = [
+    *(0, 2, 0, 0, 0, 5, 0, 5, 116, 3, 4, 1, 97, 0, 0, 2),  # the roots; t, at
+    *(115, 0, 0, 3, 115, 6, 0, 0, 101, 0, 7, 4, 105, 0, 0, 6),  # s; s, es, is
+]
 
 
 def at_fault(before, faulty):
@@ -129,6 +146,7 @@ SHEETS = [
     ((TRANSLATE, SHEET_19, [7] * 8), (0, 2, TABLE_19)),
     ((TRANSLATE, SHEET_19, [7] * 7), (6, 0, [7] * 7)),
     ((TRANSLATE, SHEET_EED, [7] * 17), (0, 4, TABLE_EED + [7])),
+    ((TRANSLATE, IN_TURN, LINKED_IN_TURN), (0, 8, TABLE_IN_TURN)),
     ((TRANSLATE, CLOSE, []), (0, 0, [])),
     ((TRANSLATE, SHEET_19 + b"\0", [7] * 7), (3, 15, [7] * 7)),
 ]
@@ -151,6 +169,14 @@ TABLES = [
     ((RUN, SHEET_EED, TABLE_EED, b"hoped"), (0, 3, b"hop  ")),
     ((RUN, ALWAYS + rule(b"", b"e") + CLOSE, [0, 0, 0, 1], b"hop"), (4, 0, b"hop")),
     ((RUN, CLOSE, [], b"cats"), (0, 4, b"cats")),
+    ((RUN, IN_TURN, TABLE_IN_TURN, b"cats"), (0, 3, b"cat ")),
+    ((RUN, IN_TURN, TABLE_IN_TURN, b"boat"), (0, 2, b"bo  ")),
+    ((RUN, IN_TURN, TABLE_IN_TURN, b"seist"), (0, 2, b"se   ")),
+    ((RUN, IN_TURN, TABLE_IN_TURN, b"yest"), (0, 2, b"ye  ")),
+    ((RUN, SHEET_19, LINKED_19, b"cats"), (7, 0, b"cats")),
+    ((RUN, SHEET_EED, LINKED_EED, b"feed"), (7, 0, b"feed")),
+    ((RUN, IN_TURN, LINKED_IN_TURN, b"cats"), (7, 0, b"cats")),
+    ((RUN, IN_TURN, LINKED_IN_TURN, b"1s"), (7, 0, b"1s")),
 ]
 SHIPPED_SHEET, SHIPPED_TABLE = sheet_of(SHIPPED), sum(nodes_of(SHIPPED), [])
 TABLES += [

@@ -1,15 +1,18 @@
 """Sets of sheets for requests 4 and 5: samples, well-formed, damaged and random sheets, sheets at
-01's bounds, translations."""
+01's bounds, translations. The nodes of every accepted one are laid out a third way too."""
 
 import random
 import struct
 
 import samples
+from layouts import by_links, by_sorting
 from probing import CHECK, TRANSLATE
 from second.groups import REPLACE, SINGLE_LETTER, Group, Rule
-from second.sheets import END, GROUP, RULE, check_sheet, record, sheet_of
+from second.sheets import END, GROUP, RULE, Faulty, check_sheet, read_sheet, record, sheet_of
+from second.tables import nodes_of
 from second.words import SHIPPED
 from sets import Set
+from words import SMALL
 
 
 def sample_sheets(_batch):
@@ -47,6 +50,30 @@ def made_groups(rng):
         for _ in range(rng.randint(0, most_rules)):
             rules.append(made_rule(rng, [rule.ending for rule in rules]))
         groups.append(Group(rng.randint(0, 1) if index else 0, rules))
+    return groups
+
+
+def any_letters(rng, count):
+    return bytes(rng.choices(SMALL, k=count))
+
+
+def wide_groups(rng):
+    """As many rules as are allowed, with short endings from the whole alphabet, in any order: nodes
+    of up to 26 children."""
+    count = rng.choice((1, 1, 2, 4, 16))
+    endings = [any_letters(rng, rng.choice((1, 2, 2, 3))) for _ in range(128)]
+    rules = [Rule(0, REPLACE, 0, ending, b"") for ending in endings]
+    return [Group(0, rules[at::count]) for at in range(count)]
+
+
+def largest_groups(rng):
+    """As many rules and letters as are allowed, and 1,552 nodes: the endings of a group all differ
+    in their last letter."""
+    groups = []
+    for _ in range(16):
+        endings = [any_letters(rng, 11) + bytes([last]) for last in rng.sample(SMALL, 8)]
+        rules = [Rule(0, REPLACE, 0, ending, any_letters(rng, 12)) for ending in endings]
+        groups.append(Group(0, rules))
     return groups
 
 
@@ -138,29 +165,61 @@ def random_sheets(batch):
     return [(CHECK, random_sheet(rng)) for _ in range(6000)]
 
 
-def made_table(rng, numbers):
-    return [rng.randrange(65536) for _ in range(max(0, numbers))]
+def lent_table(rng, sheet, numbers):
+    """So many numbers: any, or what stands there already is a table of the sheet, by 01's layout
+    before W-206 or by W-206's, or is as high as a number can be."""
+    shape, groups = rng.random(), read_sheet(sheet)
+    lent = [rng.randrange(65536) for _ in range(max(0, numbers))]
+    if shape < 0.1:
+        lent = [65535] * len(lent)
+    elif shape < 0.3:
+        before = by_links(groups) if shape < 0.2 else by_sorting(groups)
+        lent = (sum(before, []) + lent)[: len(lent)]
+    return lent
+
+
+def translation(rng, sheet):
+    """Into a table that is just long enough, longer, or too short; now and then a faulty sheet."""
+    needed = 4 * check_sheet(sheet)[1]
+    lent = lent_table(rng, sheet, needed + rng.choice((0, 0, 0, 1, 7, -1, -4, -needed)))
+    return TRANSLATE, damaged(rng, sheet) if rng.random() < 0.1 else sheet, lent
 
 
 def translations(batch):
-    """Into tables that are just long enough, longer, or too short; some from faulty sheets."""
     rng = random.Random(f"translations {batch}")
-    requests = []
-    for _ in range(2500):
-        sheet = well_formed(rng)
-        needed = 4 * check_sheet(sheet)[1]
-        if rng.random() < 0.1:
-            sheet = damaged(rng, sheet)
-        length = needed + rng.choice((0, 0, 0, 1, 7, -1, -4, -needed))
-        requests.append((TRANSLATE, sheet, made_table(rng, length)))
-    return requests
+    return [translation(rng, well_formed(rng)) for _ in range(2500)]
+
+
+def large_translations(batch):
+    """Of sheets with many nodes, the most that there can be among them."""
+    rng = random.Random(f"large translations {batch}")
+    sheets = [sheet_of(made(rng)) for made in (wide_groups,) * 15 + (largest_groups,) * 5]
+    return [translation(rng, rng.choice(sheets)) for _ in range(200)]
+
+
+def by_sorted_nodes(request):
+    """The third way, where the sheet is in order: its nodes sorted. They have to be the second
+    program's, where only their count is asked for too."""
+    kind, sheet, *lent = request
+    try:
+        groups = read_sheet(sheet)
+    except Faulty:
+        return None
+    nodes = by_sorting(groups)
+    if nodes != nodes_of(groups):
+        return "sorted", nodes
+    if kind == CHECK:
+        return 0, len(nodes)
+    made, table = sum(nodes, []), lent[0]
+    return (0, len(nodes), made + table[len(made) :]) if len(made) <= len(table) else (6, 0, table)
 
 
 SETS = [
-    Set("samples", 1, sample_sheets),
-    Set("well-formed", 10, well_formed_sheets),
-    Set("damaged", 12, damaged_sheets),
-    Set("at the bounds", 8, bounded_sheets),
-    Set("random", 8, random_sheets),
-    Set("translations", 10, translations),
+    Set("samples", 1, sample_sheets, by_sorted_nodes),
+    Set("well-formed", 10, well_formed_sheets, by_sorted_nodes),
+    Set("damaged", 12, damaged_sheets, by_sorted_nodes),
+    Set("at the bounds", 8, bounded_sheets, by_sorted_nodes),
+    Set("random", 8, random_sheets, by_sorted_nodes),
+    Set("translations", 10, translations, by_sorted_nodes),
+    Set("translations, many nodes", 2, large_translations, by_sorted_nodes),
 ]

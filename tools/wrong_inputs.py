@@ -7,7 +7,7 @@ r"""The inputs that the wrong versions name, as a reader writes them:
                                                `17 × G(gate 0)` is a record 17 times, `bytes 03 00` are bytes as they stand
     translate SHEET into 8 numbers             each of the lent numbers is 7
     run SHEET on cats                          with the table that the sheet makes,
-    run SHEET with the table 0 1 0 0 on cats   or with another
+    run SHEET with the table 0 1 1 0 on cats   or with another
     lines "group\nm>0 s -> -\n" into 19 bytes  each of the lent bytes is 7
     lookup cats in the list cats→cat, close    a word of a list, and its stem, may be in quotes; `bytes` and `×` as in a sheet
     word cats with the list cats→cat, close
@@ -161,6 +161,8 @@ def written(kind):
         "&[u8]": "output::bytes(result);",
         "Ran": "let reply = answers::of_run(result); output::reply(reply.number, reply.value);",
         "Run": "output::number(result.end); output::byte(if result.small { 1 } else { 0 });",
+        "Shape": "match result { forests::Shape::Forest(nodes) => output::reply(1, nodes), "
+        "forests::Shape::Other => output::reply(0, 0) }",
         "ListChecked": "let reply = answers::of_listed_word(match result { answers::ListChecked::Accepted(count) => "
         "answers::ListedWord::Word(answers::Answer::Done(count)), answers::ListChecked::Refused(place) => "
         "answers::ListedWord::Refused(place) }); output::reply(reply.number, reply.value);",
@@ -200,7 +202,8 @@ fn main() {{
 def values_of(call, coded):
     """What the program of a call wrote: its result and the room."""
     kind = result_of(call)
-    size = {"": 0, "bool": 1, "u8": 1, "usize": 4, "u64": 8, "Ran": 5, "Run": 5, "ListChecked": 5}.get(kind, len(coded))
+    sizes = {"": 0, "bool": 1, "u8": 1, "usize": 4, "u64": 8, "Ran": 5, "Run": 5, "Shape": 5, "ListChecked": 5}
+    size = sizes.get(kind, len(coded))
     result, room = coded[:size], coded[size:]
     if len(result) < size:
         return [coded]
@@ -210,6 +213,8 @@ def values_of(call, coded):
         values = list(struct.unpack("<BI", result))
     elif kind == "Run":
         values = [int.from_bytes(result[:4], "little"), "true" if result[4] else "false"]
+    elif kind == "Shape":
+        values = [f"Forest({int.from_bytes(result[1:], 'little')})" if result[0] else "Other"]
     elif kind == "bool":
         values = ["true" if result[0] else "false"]
     elif kind in ("u8", "usize", "u64"):

@@ -1,43 +1,72 @@
-"""The table: its nodes as a sheet makes them, the walk, the translation and the table run."""
+"""The table, as W-206 lays it out: its nodes as a sheet makes them, the walk, the translation and the
+table run."""
 
 from second.groups import obey_first, run_groups
 from second.sheets import Faulty, read_sheet
 
-LETTER, CHILD, SIBLING, RULE = range(4)  # a node's four numbers
+LETTER, CHILD, COUNT, RULE = range(4)  # a node's four numbers
 
 
-def child(nodes, parent, letter):
-    """The parent's child of this letter, or 0."""
-    at = nodes[parent][CHILD]
-    while at != 0 and nodes[at][LETTER] != letter:
-        at = nodes[at][SIBLING]
-    return at
+class Tree:
+    """A node with all that hangs below it: its letter, its first rule or 0, its children by their
+    letters; and, once the table is laid out, its number there."""
+
+    def __init__(self, letter):
+        self.letter = letter
+        self.rule = 0
+        self.by_letter = {}
+        self.number = None
+
+    def children(self):
+        """In rising letter order."""
+        return [self.by_letter[letter] for letter in sorted(self.by_letter)]
 
 
-def add_child(nodes, parent, letter):
-    """Adds a node at the end of the parent's chain and gives its number."""
-    added = len(nodes)
-    nodes.append([letter, 0, 0, 0])
-    last, link = parent, CHILD
-    while nodes[last][link] != 0:
-        last, link = nodes[last][link], SIBLING
-    nodes[last][link] = added
-    return added
+def tree_of(group, number):
+    """The root of a group whose first rule has this number."""
+    root = Tree(0)
+    for rule in group.rules:
+        at = root
+        for letter in reversed(rule.ending):
+            at = at.by_letter.setdefault(letter, Tree(letter))
+        at.rule = at.rule or number
+        number += 1
+    return root
+
+
+def level_by_level(roots):
+    """Roots first, then all their children, and so on, each level in its parents' order."""
+    nodes, level = [], roots
+    while level:
+        nodes += level
+        level = [child for parent in level for child in parent.children()]
+    return nodes
 
 
 def nodes_of(groups):
     """The nodes that a sheet of these groups makes."""
-    nodes = [[0, 0, 0, 0] for _ in groups]
-    number = 0
-    for root, group in enumerate(groups):
-        for rule in group.rules:
-            number += 1
-            at = root
-            for letter in reversed(rule.ending):
-                at = child(nodes, at, letter) or add_child(nodes, at, letter)
-            if nodes[at][RULE] == 0:
-                nodes[at][RULE] = number
+    roots, number = [], 1
+    for group in groups:
+        roots.append(tree_of(group, number))
+        number += len(group.rules)
+    trees = level_by_level(roots)
+    for number, tree in enumerate(trees):
+        tree.number = number
+    nodes = []
+    for tree in trees:
+        children = tree.children()
+        first = children[0].number if children else 0
+        nodes.append([tree.letter, first, len(children), tree.rule])
     return nodes
+
+
+def child(nodes, parent, letter):
+    """The parent's child of this letter, or 0."""
+    first, count = nodes[parent][CHILD], nodes[parent][COUNT]
+    for at in range(first, first + count):
+        if nodes[at][LETTER] == letter:
+            return at
+    return 0
 
 
 def walk(nodes, root, word):

@@ -1,39 +1,52 @@
--- One node of a chain after another, as a loop takes it.
+-- One child after another, as a loop takes it.
 use Prim.Native.Nat.{ℕ, zero, suc, _+_, _*_, _-_, _<_, _≤_}
 use mathlib.Core.Path.{_≡_, refl}
 use mathlib.Core.List.{List}
+use native.Mathlib.Numerals.{add-one}
 use native.Mathlib.Omega.{arith}
 use lib.ListN.{length, getD, List·getD-eq-default}
-use borrow.Author.Tests.{eq-eqb, ne-eqb}
-use Rattle.paths.specs.Children.{letter, nextSibling, inChain, child}
+use borrow.Author.Tests.{eq-eqb, ne-eqb, lt-ltb, le-ltb}
+use Rattle.paths.specs.Children.{letter, sought, child}
 
-pub chain-none : (steps : ℕ) (table : List ℕ) (one at : ℕ) → at ≡ 0 → inChain steps table one at ≡ 0
-unfolding inChain
-chain-none zero table one at e = refl
-chain-none (suc steps) table one at e = rw e
+module _ (count : ℕ) (table : List ℕ) (one at : ℕ) where
+  pub sought-here : 0 < count → one ≡ letter table at → sought count table one at ≡ at
+  unfolding sought
+  sought-here h e = by count h
+    where
+      by : (count : ℕ) → 0 < count → sought count table one at ≡ at
+      by zero h = absurd (omega arith)
+      by (suc count) h = rw (le-ltb (letter table at) one (omega (arith, e)), eq-eqb one (letter table at) e)
 
-pub chain-here : (steps : ℕ) (table : List ℕ) (one at : ℕ) → 0 < steps → (at ≡ 0 → ⊥) → one ≡ letter table at
-    → inChain steps table one at ≡ at
-unfolding inChain
-chain-here zero table one at h e p = absurd (omega arith)
-chain-here (suc steps) table one at h e p = rw (ne-eqb at 0 e, eq-eqb one (letter table at) p)
+  -- a greater letter stands here
+  pub sought-past : one < letter table at → sought count table one at ≡ 0
+  unfolding sought
+  sought-past h = by count
+    where
+      by : (count : ℕ) → sought count table one at ≡ 0
+      by zero = refl
+      by (suc count) = rw (le-ltb (letter table at) one (omega (arith, h)), ne-eqb one (letter table at) (λ e. omega (arith, h)))
 
-pub chain-next : (steps : ℕ) (table : List ℕ) (one at : ℕ) → 0 < steps → (at ≡ 0 → ⊥) → (one ≡ letter table at → ⊥)
-    → inChain steps table one at ≡ inChain (steps - 1) table one (nextSibling table at)
-unfolding inChain
-chain-next zero table one at h e p = absurd (omega arith)
-chain-next (suc steps) table one at h e p =
-    let less : suc steps - 1 ≡ steps = omega arith in
-    rw (ne-eqb at 0 e, ne-eqb one (letter table at) p, less)
+  pub sought-next : 0 < count → letter table at < one → sought count table one at ≡ sought (count - 1) table one (at + 1)
+  unfolding sought
+  sought-next h less = by count h
+    where
+      by : (count : ℕ) → 0 < count → sought count table one at ≡ sought (count - 1) table one (at + 1)
+      by zero h = absurd (omega arith)
+      by (suc count) h =
+          let fewer : suc count - 1 ≡ count = omega arith in
+          rw (lt-ltb (letter table at) one less, fewer, add-one)
 
-pub chain-end : (steps : ℕ) (table : List ℕ) (one at : ℕ) → steps ≤ 0 → inChain steps table one at ≡ 0
-unfolding inChain
-chain-end zero table one at h = refl
-chain-end (suc steps) table one at h = absurd (omega arith)
+  pub sought-over : count ≤ 0 → sought count table one at ≡ 0
+  unfolding sought
+  sought-over h = by count h
+    where
+      by : (count : ℕ) → count ≤ 0 → sought count table one at ≡ 0
+      by zero h = refl
+      by (suc count) h = absurd (omega arith)
 
 -- a node that the table does not have has no child
 pub child-beyond : (table : List ℕ) (at one : ℕ) → length table ≤ at → child table at one ≡ 0
-unfolding child
+unfolding child sought
 child-beyond table at one h =
-    let none : getD table (4 * at + 1) 0 ≡ 0 = List·getD-eq-default table 0 (omega arith) in
-    rw none (chain-none (length table) table one 0 refl)
+    let none : getD table (4 * at + 2) 0 ≡ 0 = List·getD-eq-default table 0 (omega arith) in
+    rw none refl

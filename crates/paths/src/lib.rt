@@ -3,7 +3,6 @@
 ghost use mathlib.Core.Path.{_≡_};
 ghost use Prim.Native.Nat.{_<_};
 ghost use lib.ListN.{getD};
-ghost use Rattle.paper.specs.Groups.{same};
 ghost use Rattle.paper.specs.Letters.{inward};
 ghost use Rattle.walks.specs.Walk.{deepest as deepestOf, reached, held};
 ghost use Rattle.paths.specs.Children.{child as childOf, nodesIn};
@@ -20,24 +19,25 @@ pub fn number_at(table: &[u16], place: usize) -> usize
     }
 }
 
-// The child of this letter, 0 for none.
+// The child of this letter, 0 for none. No more children are looked at than the node has, and none behind a greater letter.
 pub fn child(table: &[u16], parent: usize, letter: usize) -> usize
-    ensures { λ r. ⌜ (r ≡ childOf (now (table .entry)) parent letter) × (r < 65536) ⌝ }
+    ensures { λ r. ⌜ (r ≡ childOf (now (table .entry)) parent letter) × (r < 131072) ⌝ }
 {
     if table.len() <= parent {
         return 0;
     }
     let mut at = number_at(table, 4 * parent + 1);
-    let mut steps = table.len();
-    while 0 < steps {
-        if at == 0 {
+    let mut left = number_at(table, 4 * parent + 2);
+    while 0 < left {
+        let here = number_at(table, 4 * at);
+        if letter <= here {
+            if letter == here {
+                return at;
+            }
             return 0;
         }
-        if letter == number_at(table, 4 * at) {
-            return at;
-        }
-        at = number_at(table, 4 * at + 2);
-        steps -= 1;
+        at += 1;
+        left -= 1;
     }
     0
 }
@@ -83,21 +83,4 @@ pub fn held_at(table: &[u16], root: usize, ending: &[u8]) -> usize
         }
     }
     number_at(table, 4 * at + 3)
-}
-
-// Whether two tables have the same numbers.
-pub fn same_numbers(one: &[u16], other: &[u16]) -> bool
-    ensures { λ r. ⌜ r ≡ same (now (one .entry)) (now (other .entry)) ⌝ }
-{
-    if one.len() != other.len() {
-        return false;
-    }
-    let mut i = 0;
-    while i < one.len() {
-        if one[i] != other[i] {
-            return false;
-        }
-        i += 1;
-    }
-    true
 }

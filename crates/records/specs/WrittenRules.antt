@@ -67,7 +67,7 @@ bounds one all =
       fit-action = and-right (first && second) (allowedAction one (one .action)) all;
     }
 
-short-replacement : (one : Rule) (action : Action) → allowedAction one action ≡ true → length (written action) ≤ 12
+pub short-replacement : (one : Rule) (action : Action) → allowedAction one action ≡ true → length (written action) ≤ 12
 unfolding allowedAction atMost12
 short-replacement one (replace s2) fits = leb-true _ _ (and-left (leb (length s2) 12) (allSmall s2) fits)
 short-replacement one single-letter fits = omega arith

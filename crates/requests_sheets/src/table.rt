@@ -22,7 +22,7 @@ pub fn answered_translation() -> bool {
 }
 
 fn answer_translation(sheet: &[u8], table: &mut [u16]) {
-    let reply = answers::of_translation(siblings::translate(sheet, table));
+    let reply = answers::of_translation(translations::translate(sheet, table));
     output::reply(reply.number, reply.value);
     output::table(table);
 }

@@ -2,6 +2,7 @@
 pub mod Sheets
 pub mod Checks
 pub mod Accepted
+pub mod Reads
 -- Then the same from the other side, the bytes of a list of groups, and that the two correspond; 01's samples.
 pub mod SheetBytes
 pub mod Correspondence
@@ -13,7 +14,8 @@ pub mod SheetSteps
 pub mod ReadBack
 pub mod WriteBack
 pub mod NodeBounds
--- The way through a sheet; what the check adds to it, and looking back for the node count
+-- The way through a sheet, as it is read and as its nodes are counted, by looking back
 pub mod SheetPlaces
+pub mod ReadLaws
 pub mod EarlierRules
-pub mod CheckLaws
+pub mod NodeLaws

@@ -2,7 +2,7 @@
 use Prim.Native.Nat.{ℕ, suc, _+_, _≤_, _<_}
 use mathlib.Core.Path.{_≡_, refl, sym, ap, _∙_}
 use mathlib.Core.Bool.{true, false, cond, false≢true}
-use mathlib.Core.List.{List, [], _∷_}
+use mathlib.Core.List.{List, [], _∷_, _++_}
 use native.Mathlib.Numerals.{add-one}
 use native.Mathlib.Omega.{arith}
 use lib.Dec.{eqb, ltb}
@@ -11,9 +11,11 @@ use borrow.Author.Tests.{ltb-true, ltb-false}
 use Rattle.paper.specs.Groups.{Rule, Gate, always, if-opened, Group}
 use Rattle.paper.specs.ListLaws.{empty}
 use Rattle.paper.specs.TestLaws.{apart, by-test, neither-left}
-use Rattle.records.specs.Framing.{body, recordLength, after, nextPlace}
+use Rattle.records.specs.Framing.{body, recordLength, after, nextPlace, recordOf}
 use Rattle.records.specs.FramingLaws.{length-after, beyond}
 use Rattle.records.specs.Records.{gate, rule, faultyAlone}
+use Rattle.records.specs.RecordBytes.{ruleBody}
+use Rattle.records.specs.ReadRecords.{rule-record}
 use Rattle.records.specs.RecordAnswers.{recordAt}
 use Rattle.passing.specs.Passed.{passedAt}
 use Rattle.passing.specs.PassedLaws.{passed-is}
@@ -131,6 +133,7 @@ pub record RuleNext {sheet : List ℕ} {at groups rules : ℕ} {list : List Rule
     (here : Holding sheet at groups rules list more) (c a o start middle next : ℕ) : Type 0 where
   pub one : Rule
   pub facts : RuleFacts sheet c a o start middle next one
+  pub bytes-here : drop at sheet ≡ recordOf 2 (ruleBody one) ++ drop next sheet
   pub rules-then : List Rule
   pub holds : Holding sheet next groups (rules + 1) rules-then more
   pub rule-first : list ≡ one ∷ rules-then
@@ -192,6 +195,8 @@ module _ {sheet : List ℕ} {at groups rules : ℕ} {list : List Rule} {more : L
       record {
         one = rule (body (drop at sheet));
         facts = is .facts;
+        bytes-here = let next-bytes : after (drop at sheet) ≡ drop next sheet = rw (is .next-is) (sym (beyond sheet at)) in
+            rw next-bytes at (rule-record (is .here));
         rules-then = found .rules-then;
         holds = record { rest-is = found .rest-then };
         rule-first = found .rule-first;

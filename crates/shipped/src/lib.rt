@@ -4,7 +4,7 @@ ghost use Rattle.paper.specs.Shipped.{shipped};
 ghost use Rattle.paper.specs.Words.{readWord, wordOutcome, Gives};
 ghost use Rattle.answers.specs.Answers.{numberOfRan, valueOfRan};
 ghost use Rattle.sheets.specs.SheetBytes.{sheetOf};
-ghost use Rattle.siblings.specs.Layout.{tableOf};
+ghost use Rattle.levels.specs.Layout.{tableOf};
 ghost use Rattle.printed.specs.Printed.{textOf};
 ghost use Rattle.lines.specs.Lines.{print};
 ghost use Rattle.imports.specs.EverySheet.{linesOf};

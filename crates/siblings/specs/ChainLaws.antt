@@ -8,9 +8,10 @@ use native.Mathlib.Nat.{add-zero, zero-add}
 use lib.ListN.{length, drop, getD, length-append}
 use lib.Seq.{getD-drop}
 use borrow.Author.Tests.{ne-eqb}
-use Rattle.siblings.specs.Layout.{Node, node, sameNode, letterOf, isChild, isSibling, rows}
+use Rattle.siblings.specs.Layout.{letterOf, isChild, isSibling, rows}
+use Rattle.walks.specs.Ends.{Node, node, sameNode}
 use Rattle.paper.specs.Numbered.{numberOf}
-use Rattle.paths.specs.Children.{letter, firstChild, nextSibling, firstRule, inChain, child}
+use Rattle.siblings.specs.Chains.{letter, firstChild, nextSibling, firstRule, inChain, child}
 use Rattle.paper.specs.TestLaws.{by-test}
 use Rattle.paper.specs.NumberedLaws.{number-cong}
 use Rattle.siblings.specs.KinLaws.{child-letter, no-child, child-siblings, root-no-child}

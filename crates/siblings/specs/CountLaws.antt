@@ -9,7 +9,8 @@ use lib.ListN.{length, length-append}
 use borrow.Author.Tests.{ne-eqb, eq-eqb}
 use Rattle.paper.specs.Groups.{Rule, Group, same}
 use Rattle.paper.specs.Nodes.{tails, member, distinct, nodeCount}
-use Rattle.siblings.specs.Layout.{Node, node, present, roots, ends, way, added, grown, nodesOf, tableOf}
+use Rattle.siblings.specs.Layout.{present, roots, way, added, grown, nodesOf, tableOf}
+use Rattle.walks.specs.Ends.{Node, node, ends}
 use Rattle.paper.specs.TestLaws.{by-test}
 use Rattle.paper.specs.GroupsLaws.{same-equal}
 use Rattle.paper.specs.MemberLaws.{member-append, Alike, swapped, distinct-alike}
@@ -17,7 +18,7 @@ use Rattle.siblings.specs.GrownLaws.{present-added, present-grown, prese
 use Rattle.siblings.specs.WaysLaws.{ways-group}
 use Rattle.paper.specs.DistinctLaws.{ascending, ascendingOf, distinct-rules}
 use Rattle.siblings.specs.ChainLaws.{rows-length}
-use Rattle.siblings.specs.TranslationFaithful.{roots-no-tail}
+use Rattle.siblings.specs.LayoutFaithful.{roots-no-tail}
 
 -- the tails seen are those that have nodes in this group
 abbrev Agree : ℕ → List Node → List (List ℕ) → Type 0

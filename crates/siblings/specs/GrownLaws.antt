@@ -6,9 +6,10 @@ use mathlib.Core.List.{List, [], _∷_, _++_, append-assoc, append-nil}
 use lib.Dec.{eqb}
 use Rattle.paper.specs.Groups.{same}
 use Rattle.paper.specs.Nodes.{tails, member}
-use Rattle.siblings.specs.Layout.{Node, node, sameNode, present, way, added, grown}
+use Rattle.siblings.specs.Layout.{present, way, added, grown}
+use Rattle.walks.specs.Ends.{Node, node, sameNode}
 use Rattle.paper.specs.TestLaws.{by-test}
-use Rattle.siblings.specs.KinLaws.{same-node-eq}
+use Rattle.walks.specs.EndsLaws.{same-node-eq}
 use Rattle.siblings.specs.PresentLaws.{present-append}
 
 -- a node is on the way to one of these

@@ -1,25 +1,15 @@
 -- When two nodes are the same, parent and child, or siblings.
 use Prim.Native.Nat.{ℕ}
-use mathlib.Core.Path.{_≡_, refl, sym, ap, ap₂, _∙_}
+use mathlib.Core.Path.{_≡_, sym, ap, ap₂, _∙_}
 use mathlib.Core.Bool.{true, false, _&&_, false≢true, and-true, and-false}
 use mathlib.Core.List.{List, [], _∷_}
 use lib.Dec.{eqb}
-use borrow.Author.Tests.{eqb-true, eq-eqb}
+use borrow.Author.Tests.{eqb-true}
 use Rattle.paper.specs.Groups.{same}
-use Rattle.siblings.specs.Layout.{Node, node, sameNode, letterOf, oneMore, isChild, isSibling}
+use Rattle.siblings.specs.Layout.{letterOf, oneMore, isChild, isSibling}
+use Rattle.walks.specs.Ends.{Node, node, sameNode}
 use Rattle.paper.specs.TestLaws.{by-test, and-left, and-right, and-both}
-use Rattle.paper.specs.GroupsLaws.{same-equal, same-itself}
-
-pub same-node-eq : (one other : Node) → sameNode one other ≡ true → one ≡ other
-unfolding sameNode
-same-node-eq one other e =
-    let groups = eqb-true (one .group) (other .group) (and-left (eqb (one .group) (other .group)) (same (one .tail) (other .tail)) e) in
-    let tails = same-equal (one .tail) (other .tail) (and-right (eqb (one .group) (other .group)) (same (one .tail) (other .tail)) e) in
-    ap₂ node groups tails
-
-pub same-node-refl : (one : Node) → sameNode one one ≡ true
-unfolding sameNode
-same-node-refl one = and-both (eq-eqb (one .group) (one .group) refl) (same-itself (one .tail))
+use Rattle.paper.specs.GroupsLaws.{same-equal}
 
 -- ## A child of a letter is the node whose tail has that letter before the parent's tail
 

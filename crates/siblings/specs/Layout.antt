@@ -1,22 +1,11 @@
--- Document 01, "The table": the nodes in their order of creation, and the four numbers of each.
+-- The layout that document 01 had before W-206: the nodes in their order of creation, and the four numbers of each.
 use Prim.Native.Nat.{ℕ, suc}
 use mathlib.Core.Bool.{Bool, false, cond, _&&_, _||_}
-use mathlib.Core.List.{List, [], _∷_, _++_, map}
+use mathlib.Core.List.{List, [], _∷_, _++_}
 use lib.Dec.{eqb}
 use Rattle.paper.specs.Groups.{Group, same}
 use Rattle.paper.specs.Numbered.{numberOf}
-
--- A node is known by its group, and by the tail that the letters from it up to the root spell: of the tail ed the letter is
--- e, and the parent is the node of d.
-pub record Node : Type 0 where
-  pub group : ℕ
-  pub tail : List ℕ
-
-abbrev pub node : ℕ → List ℕ → Node
-node group tail = record { group = group; tail = tail }
-
-unfoldable pub sameNode : Node → Node → Bool
-sameNode one other = eqb (one .group) (other .group) && same (one .tail) (other .tail)
+use Rattle.walks.specs.Ends.{Node, node, sameNode, ends}
 
 unfoldable pub present : Node → List Node → Bool
 present one [] = false
@@ -26,11 +15,6 @@ present one (other ∷ more) = sameNode one other || present one more
 unfoldable pub roots : ℕ → List Group → List Node
 roots number [] = []
 roots number (group ∷ groups) = node number [] ∷ roots (suc number) groups
-
--- "for each rule in sheet order": the node where its S1 ends
-unfoldable pub ends : ℕ → List Group → List Node
-ends number [] = []
-ends number (group ∷ groups) = map (λ rule. node number (rule .ending)) (group .rules) ++ ends (suc number) groups
 
 -- "each letter of S1 from the last inward": the nodes on the way from the root, of eed those of d, ed and eed
 unfoldable pub way : ℕ → List ℕ → List Node

@@ -1,28 +1,14 @@
--- Document 01, "The table". First the definitions: the layout, and what a translation answers.
+-- The layout that document 01 had before W-206, with chains of siblings. First the definitions: how a chain is walked, and the layout.
+pub mod Chains
 pub mod Layout
-pub mod Translations
--- Then 01's samples, and that the layout is faithful to its groups.
+-- Then 01's examples of it, that it is faithful to its groups, and how many nodes it has.
 pub mod TableSamples
-pub mod TranslationFaithful
-pub mod AnsweredTranslation
--- Laws of the layout: nodes, chains, paths, and how many nodes there are
+pub mod LayoutFaithful
+pub mod CountLaws
+-- What these rest on: nodes, chains, paths
 pub mod KinLaws
 pub mod PresentLaws
 pub mod ChainLaws
 pub mod PathLaws
 pub mod GrownLaws
 pub mod WaysLaws
-pub mod CountLaws
--- The translation step by step, on the numbers of a table and through a sheet
-pub mod Laying
-pub mod LayingSteps
-pub mod HangLaws
-pub mod ChainEndLaws
-pub mod SoundLaws
-pub mod StoreLaws
-pub mod LayingLaws
-pub mod EnterLaws
-pub mod NoteLaws
-pub mod TranslationSteps
-pub mod GoingLaws
-pub mod TranslationLaws

@@ -8,9 +8,10 @@ use mathlib.Core.Option.{none, some}
 use native.Mathlib.Nat.{zero-add}
 use lib.Dec.{eqb, lit<}
 use Rattle.paper.specs.Groups.{Rule, same}
-use Rattle.siblings.specs.Layout.{Node, node, sameNode, present, rows}
+use Rattle.siblings.specs.Layout.{present, rows}
+use Rattle.walks.specs.Ends.{Node, node, sameNode}
 use Rattle.paper.specs.Numbered.{numberOf}
-use Rattle.paths.specs.Children.{firstRule, child, nodesIn}
+use Rattle.siblings.specs.Chains.{firstRule, child, nodesIn}
 use Rattle.walks.specs.Walk.{onward, reached, held}
 use Rattle.walks.specs.Faithful.{exists, leads, FaithfulGroup}
 use Rattle.paper.specs.Numbered.{firstWith}

@@ -8,10 +8,11 @@ use native.Mathlib.Nat.{add-zero}
 use lib.Dec.{eqb}
 use lib.ListN.{length}
 use borrow.Author.Tests.{ne-eqb}
-use Rattle.siblings.specs.Layout.{Node, sameNode, present}
+use Rattle.siblings.specs.Layout.{present}
+use Rattle.walks.specs.Ends.{Node, sameNode}
 use Rattle.paper.specs.Numbered.{numberOf}
 use Rattle.paper.specs.TestLaws.{by-test}
-use Rattle.siblings.specs.KinLaws.{same-node-eq}
+use Rattle.walks.specs.EndsLaws.{same-node-eq}
 
 -- counted from 1 or more, the number is 0 exactly where the node is missing
 pub number-missing : (one : Node) (k : ℕ) (nodes : List Node) → 0 < k → eqb (numberOf (sameNode one) k nodes) 0 ≡ not (present one nodes)

@@ -3,53 +3,14 @@ use Prim.Native.Nat.{ℕ, suc, _+_, _<_}
 use mathlib.Core.Path.{_≡_, refl, sym, _∙_}
 use mathlib.Core.Bool.{false, _&&_, _||_, or-assoc, and-or-distrib-left, and-false}
 use mathlib.Core.List.{List, [], _∷_, _++_, map}
-use native.Mathlib.Nat.{add-zero}
 use native.Mathlib.Omega.{arith}
 use lib.Dec.{eqb}
-use lib.ListN.{length}
-use borrow.Author.Tests.{ne-eqb, eq-eqb}
+use borrow.Author.Tests.{ne-eqb}
 use Rattle.paper.specs.Groups.{Rule, Group}
 use Rattle.paper.specs.Nodes.{tails, tailsOf, member}
-use Rattle.siblings.specs.Layout.{Node, node, sameNode, ends}
-use Rattle.paper.specs.Numbered.{numberOf}
-use Rattle.paper.specs.Numbered.{firstWith}
-use Rattle.paper.specs.GroupsLaws.{same-sym}
+use Rattle.walks.specs.Ends.{Node, node, ends}
 use Rattle.paper.specs.MemberLaws.{member-append}
 use Rattle.siblings.specs.GrownLaws.{inWays, present-way}
-
--- ## Rules of another group
-
-pub other-group : (group number : ℕ) (tail other : List ℕ) → eqb group number ≡ false
-    → sameNode (node group tail) (node number other) ≡ false
-unfolding sameNode
-other-group group number tail other e = rw e
-
-pub number-past : (group number : ℕ) (tail : List ℕ) → eqb group number ≡ false → (k : ℕ) (rules : List Rule) (more : List Node)
-    → numberOf (sameNode (node group tail)) k (map (λ rule. node number (rule .ending)) rules ++ more)
-    ≡ numberOf (sameNode (node group tail)) (k + length rules) more
-unfolding numberOf
-number-past group number tail e k [] more = rw add-zero
-number-past group number tail e k (rule ∷ rules) more =
-    let next : suc k + length rules ≡ k + suc (length rules) = omega arith in
-    rw (other-group group number tail (rule .ending) e) (number-past group number tail e (suc k) rules more ∙ rw next)
-
-pub number-beyond : (group : ℕ) (tail : List ℕ) (k number : ℕ) (groups : List Group) → group < number
-    → numberOf (sameNode (node group tail)) k (ends number groups) ≡ 0
-unfolding ends numberOf
-number-beyond group tail k number [] h = refl
-number-beyond group tail k number (one ∷ groups) h =
-    number-past group number tail (ne-eqb group number (λ e. omega arith)) k (one .rules) (ends (suc number) groups)
-    ∙ number-beyond group tail (k + length (one .rules)) (suc number) groups (omega arith)
-
--- ## Rules of the group itself
-
-pub number-own : (group : ℕ) (tail : List ℕ) (k : ℕ) (rules : List Rule) (more : List Node)
-    → ((j : ℕ) → numberOf (sameNode (node group tail)) j more ≡ 0)
-    → numberOf (sameNode (node group tail)) k (map (λ rule. node group (rule .ending)) rules ++ more) ≡ firstWith k rules tail
-unfolding numberOf firstWith sameNode
-number-own group tail k [] more e = e k
-number-own group tail k (rule ∷ rules) more e =
-    rw (eq-eqb group group refl, same-sym tail (rule .ending), number-own group tail (suc k) rules more e)
 
 -- ## Nodes on the ways of the rules
 

@@ -1,19 +1,14 @@
 -- Document 01, "Numbers returned": what the run of a table on a word answers, and what it leaves in the word's place.
 use Prim.Native.Nat.{ℕ, _*_}
-use mathlib.Core.Bool.{Bool, cond}
+use mathlib.Core.Bool.{cond}
 use mathlib.Core.List.{List}
 use lib.ListN.{take}
-use Rattle.paper.specs.Groups.{Group, same}
 use Rattle.paper.specs.Nodes.{nodeCount}
 use Rattle.paper.specs.Words.{Outcome, refused, wordOutcome}
 use Rattle.sheets.specs.Sheets.{Sheet, refused as faulty, accepted, readSheet}
-use Rattle.siblings.specs.Layout.{tableOf}
+use Rattle.judging.specs.Judgements.{rightTable}
 use Rattle.paths.specs.Children.{nodesIn}
 use Rattle.walks.specs.Walk.{walkWord}
-
--- "7: the table's first 4 × node count numbers are missing or not those the sheet makes"
-unfoldable pub rightTable : List Group → List ℕ → Bool
-rightTable groups table = same (take (4 * nodeCount groups) table) (tableOf groups)
 
 -- "3, 7, 1, 2, 4 for a table run"; "Every refusal leaves all that was lent unchanged."
 unfoldable pub runOf : Sheet → List ℕ → List ℕ → Outcome

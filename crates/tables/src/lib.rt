@@ -7,9 +7,8 @@ mod runs;
 mod word_runs;
 
 use answers::Ran;
-use answers::Translated;
-use paths::same_numbers;
-use siblings::translate;
+use judging::Judged;
+use judging::judge;
 use word_runs::word_run;
 
 // Runs a table on a word, after the sheet and the table are held against each other.
@@ -17,20 +16,13 @@ pub fn run(sheet: &[u8], table: &[u16], word: &mut [u8]) -> Ran
     ensures { λ r. ⌜ Gives (runOutcome (now (sheet .entry)) (now (table .entry)) (now (word .entry)))
         (numberOfRan r) (valueOfRan r) (now (word .exit)) ⌝ }
 {
-    let mut own = [0u16; 6208];
-    let found = translate(sheet, &mut own[..]);
+    let found = judge(sheet, table);
     match found {
-        Translated::Refused(place) => Ran::Refused(place),
-        Translated::Short => Ran::Table,
-        Translated::Nodes(nodes) => {
-            let size = 4 * nodes;
-            if table.len() < size {
-                return Ran::Table;
-            }
-            if !same_numbers(&table[..size], &own[..size]) {
-                return Ran::Table;
-            }
-            Ran::Word(word_run(sheet, &table[..size], word))
+        Judged::Refused(place) => Ran::Refused(place),
+        Judged::Other => Ran::Table,
+        Judged::Right(nodes) => {
+            let end = 4 * nodes;
+            Ran::Word(word_run(sheet, &table[..end], word))
         }
     }
 }

@@ -6,7 +6,7 @@ use borrow.Author.Needs.{needs}
 use Rattle.paper.specs.Shipped.{shipped}
 use Rattle.paper.specs.Words.{readWord, wordOutcome, Gives}
 use Rattle.sheets.specs.SheetBytes.{sheetOf}
-use Rattle.siblings.specs.Layout.{tableOf}
+use Rattle.levels.specs.Layout.{tableOf}
 use Rattle.tables.specs.RunOutcomes.{runOutcome}
 use Rattle.tables.specs.Demand3.{delivered-reads}
 use Rattle.shipped.proofs.run.Statement.{statement}

@@ -1,7 +1,7 @@
 -- `shipped::table` meets its contract: the constant is the shipped rules' table.
 use mathlib.Core.Path.{refl}
 use Rattle.paper.specs.Shipped.{shipped}
-use Rattle.siblings.specs.Layout.{computed}
+use Rattle.levels.specs.Layout.{computed}
 use Rattle.shipped.proofs.table.Statement.{statement}
 use Rattle.shipped.proofs.table.Tie as tie
 
