@@ -2,8 +2,8 @@
 short, unknown or over its bounds; and that a slow pipe gives what a file gives."""
 
 from list_samples import PLURALS
-from probing import ENDED, LOOKUP, MAKE, NEXT, PROBE, TEXT, TEXT_WITH_LIST, WORD, WORD_WITH_LIST
-from probing import coded_answer, coded_request, raw, slowly, through
+from probing import ENDED, LOOKUP, MAKE, NEXT, PROBE, TEXT, TEXT_WITH_LIST, VOCABULARY, WORD
+from probing import WORD_WITH_LIST, coded_answer, coded_request, raw, slowly, through
 from sets import Result
 
 GOOD = (WORD, b"hopping")
@@ -27,6 +27,11 @@ BAD = {
     "a sheet of 16,385 bytes for lines": coded_request((MAKE, b"group\n", bytes(16385))),
     "no sheet for lines": coded_request((MAKE, b"group\n", b""))[:-4],
     "a cut sheet for lines": coded_request((MAKE, b"group\n", b"cats"))[:-1],
+    "no vocabulary": bytes([VOCABULARY]),
+    "a cut length of a vocabulary": bytes([VOCABULARY]) + raw(6)[:-1],
+    "a cut vocabulary": coded_request((VOCABULARY, b"us us\n"))[:-1],
+    "a vocabulary of 1,048,577 bytes": coded_request((VOCABULARY, b"a" * 1048577)),
+    "a vocabulary of 2^32 - 1 bytes": bytes([VOCABULARY]) + raw(2**32 - 1) + b"us us\n",
 }
 
 
@@ -48,6 +53,11 @@ def bad_with_list(kind, longest):
 BAD |= bad_with_list(LOOKUP, 4096) | bad_with_list(WORD_WITH_LIST, 4096)
 BAD |= bad_with_list(TEXT_WITH_LIST, 70000)
 
+# The longest vocabulary that is taken, and what follows it
+LONGEST = (VOCABULARY, b"a a\n" * (1048576 // 4))
+LONGEST_ASKED = coded_request(LONGEST) + ASKED
+LONGEST_ANSWER = coded_answer(LONGEST, (0, 0)) + ANSWER
+
 
 def at_once(coded):
     return through(PROBE, coded)
@@ -67,6 +77,7 @@ class Ends:
         result = Result()
         cases = {
             "nothing": (at_once, b"", b""),
+            "a vocabulary of 1,048,576 bytes": (at_once, LONGEST_ASKED, LONGEST_ANSWER),
             "a slow pipe": (byte_by_byte, ASKED * 3, ANSWER * 3),
             "a slow pipe, cut": (byte_by_byte, ASKED + ASKED[:-1], ANSWER + ENDED),
         }

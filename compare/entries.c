@@ -1,10 +1,11 @@
-/* Answers requests 1, 2, 9 and 10 of the program `probe`, a word and a text, bare and with a list,
-   by the entries for C of include/lunarbugle.h. The bytes that it lends lie beside memory that
-   cannot be read: each call is made twice, on bytes that begin directly behind an unreadable page
-   and on bytes that end directly before one. An entry that reads or writes beyond what it was lent
-   on that side is stopped by the processor; on the other side a margin has to come back as it was.
-   Both calls have to give the same answer and the same bytes. A list lies in the same two ways in
-   memory of its own, which cannot be written during the call.
+/* Answers requests 1, 2, 9, 10 and 11 of the program `probe`, a word and a text, bare and with a
+   list, and a vocabulary, by the entries for C of include/lunarbugle.h. The bytes that it lends
+   lie beside memory that cannot be read: each call is made twice, on bytes that begin directly
+   behind an unreadable page and on bytes that end directly before one. An entry that reads or
+   writes beyond what it was lent on that side is stopped by the processor; on the other side a
+   margin has to come back as it was. Both calls have to give the same answer and the same bytes.
+   A list, as which a vocabulary comes too, lies in the same two ways in memory of its own, which
+   cannot be written during the call.
 
    A request that is cut short, unknown or over its bounds, and a call that fails this test, is
    answered with the byte 255, which ends the run. */
@@ -19,8 +20,9 @@
 #include <sys/mman.h>
 #include <unistd.h>
 
-enum { WORD = 1, TEXT = 2, WORD_WITH_LIST = 9, TEXT_WITH_LIST = 10, ENDED = 255 };
-enum { MOST_WORD = 4096, MOST_TEXT = 70000, MOST_LIST = 70000, MARGIN = 4096, FILLED = 0x53 };
+enum { WORD = 1, TEXT = 2, WORD_WITH_LIST = 9, TEXT_WITH_LIST = 10, VOCABULARY = 11, ENDED = 255 };
+enum { MOST_WORD = 4096, MOST_TEXT = 70000, MOST_LIST = 70000, MOST_VOCABULARY = 1048576 };
+enum { MARGIN = 4096, FILLED = 0x53 };
 
 struct space { /* memory that can be used, between two pages that cannot */
     uint8_t *start, *end;
@@ -28,10 +30,10 @@ struct space { /* memory that can be used, between two pages that cannot */
 static struct space space, list_space;
 
 struct argument { /* what came */
-    uint8_t bytes[MOST_TEXT];
+    uint8_t bytes[MOST_VOCABULARY];
     size_t length;
 };
-static struct argument argument, list;
+static struct argument argument, list; /* a vocabulary is a list, with no argument */
 static uint8_t afterwards[MOST_TEXT]; /* the bytes after the first call */
 
 /* Unreadable and unwritable memory */
@@ -89,8 +91,9 @@ static int can_be_kept(struct space one)
 static int make_spaces(void)
 {
     signal(SIGSEGV, stop);
-    int right = make_space(&space, MOST_TEXT + MARGIN) && make_space(&list_space, MOST_LIST) &&
-                can_be_kept(list_space);
+    int right = make_space(&space, MOST_TEXT + MARGIN) &&
+                make_space(&list_space, MOST_VOCABULARY) && can_be_kept(list_space) &&
+                allow(list_space, PROT_READ);
     signal(SIGSEGV, SIG_DFL);
     return right;
 }
@@ -106,18 +109,23 @@ static uint64_t call(int request, const uint8_t *listed, uint8_t *bytes)
         return lunarbugle_text(bytes, argument.length);
     case WORD_WITH_LIST:
         return lunarbugle_stem_listed(listed, list.length, bytes, argument.length);
-    default:
+    case TEXT_WITH_LIST:
         return lunarbugle_text_listed(listed, list.length, bytes, argument.length);
+    default:
+        return lunarbugle_vocabulary(listed, list.length);
     }
 }
 
-/* Puts the list at this place, and keeps it from being written. */
+/* Puts the list at this place, and keeps it from being written. Only its own pages can be written
+   meanwhile: to change all of them takes longer than most calls. */
 static int put_list(uint8_t *place)
 {
-    if (!allow(list_space, PROT_READ | PROT_WRITE))
+    size_t into_page = (place - list_space.start) % sysconf(_SC_PAGESIZE);
+    struct space pages = {place - into_page, place + list.length};
+    if (!allow(pages, PROT_READ | PROT_WRITE))
         return 0;
     memcpy(place, list.bytes, list.length);
-    return allow(list_space, PROT_READ);
+    return allow(pages, PROT_READ);
 }
 
 /* Lends a copy of the argument at this place. Says whether the margin came back as it was. */
@@ -172,6 +180,7 @@ static int read_argument(struct argument *read, size_t most)
 
 static int read_arguments(int request)
 {
+    argument.length = list.length = 0;
     switch (request) {
     case WORD:
         return read_argument(&argument, MOST_WORD);
@@ -181,15 +190,19 @@ static int read_arguments(int request)
         return read_argument(&list, MOST_LIST) && read_argument(&argument, MOST_WORD);
     case TEXT_WITH_LIST:
         return read_argument(&list, MOST_LIST) && read_argument(&argument, MOST_TEXT);
+    case VOCABULARY:
+        return read_argument(&list, MOST_VOCABULARY);
     default:
         return 0;
     }
 }
 
 /* What the number says besides: of a text, what stands before the words left. */
-static size_t value(uint64_t answer, int is_text)
+static size_t value(uint64_t answer, int request, int is_text)
 {
     unsigned number = lunarbugle_number(answer);
+    if (request == VOCABULARY)
+        return lunarbugle_line(answer);
     if (number == 10)
         return lunarbugle_faulty_record(answer);
     if (is_text)
@@ -205,11 +218,11 @@ static int answered(int request)
         return 0;
     if (!call_twice(request, &answer)) {
         fprintf(stderr, "entries: request %d of %zu bytes differs by its place\n", request,
-                argument.length);
+                list.length + argument.length);
         return 0;
     }
     putchar(lunarbugle_number(answer));
-    write_number(value(answer, is_text));
+    write_number(value(answer, request, is_text));
     if (is_text)
         write_number(lunarbugle_words_left(answer));
     fwrite(afterwards, 1, argument.length, stdout);

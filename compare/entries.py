@@ -1,5 +1,5 @@
-"""Sets of words and texts, with and without a list, for the entries for C: what `probe` is asked,
-through the program of `entries.c`, which takes the same requests."""
+"""Sets of words and texts, with and without a list, and of vocabularies, for the entries for C:
+what `probe` is asked, through the program of `entries.c`, which takes the same requests."""
 
 import subprocess
 
@@ -7,6 +7,7 @@ from lists import SETS as LISTS
 from probing import EMULATE, HERE, UNNUMBERED
 from sets import Set
 from texts import SETS as TEXTS
+from vocabularies import SETS as VOCABULARIES
 from words import SETS as WORDS
 
 ROOT = HERE.parent
@@ -14,6 +15,7 @@ BUILT = ROOT / "target/compare/entries"
 ENTRIES = [EMULATE, "--static", BUILT]
 MOST_BATCHES = 8  # of a set
 MOST_OF_LISTS = 3
+MOST_OF_VOCABULARIES = 1
 
 
 def printed(*command):
@@ -46,3 +48,4 @@ def through_entries(kind, one, most=MOST_BATCHES):
 SETS = [through_entries("words", one) for one in WORDS if one.name != "one run"]
 SETS += [through_entries("texts", one) for one in TEXTS if one.name != "next word"]
 SETS += [through_entries("lists", one, MOST_OF_LISTS) for one in LISTS]
+SETS += [through_entries("vocabularies", one, MOST_OF_VOCABULARIES) for one in VOCABULARIES]

@@ -1,7 +1,7 @@
 """Sets for the examples, each as pairs of what a program gave and what it has to give. The one for
 rule sheets is held to document 01's two example tables and to the shipped rules, as bytes and as
 lines. The one for exception lists is held to its lines, and these to what they are for: both words
-of a pair have one stem."""
+of a pair have one stem. The one for vocabularies is held to the incident's list, among others."""
 
 import os
 import subprocess
@@ -15,11 +15,15 @@ from samples import CLOSE
 from second.lists import check_list, stem_by
 from second.tables import nodes_of
 from second.words import SHIPPED
+from vocabularies import right_pairs
+from vocabulary_samples import vocabulary_of
+from words import published
 
 SHEET = [HERE.parent / "examples/sheet/run"]
 LIST = [HERE.parent / "examples/list/make"]
 PLURALS = HERE.parent / "examples/list/irregular-plurals"
 SINGULARS = HERE.parent / "examples/list/singulars"
+VOCABULARY = [HERE.parent / "examples/host/check"]
 
 # Answers: what a program writes, the last line that it says on standard error, and its status
 
@@ -143,3 +147,47 @@ def list_example_files():
             yield (goal.read_bytes(), lines.read_bytes()), (b"as it was", b"wolves wolf\n")
         yield ran([*LIST, lines, goal], b""), (b"", [], 0)
         yield (goal.read_bytes(), len(os.listdir(folder))), (WOLVES, 3)
+
+
+# Vocabularies
+
+SUPPLIED = b"pumps pump\nfeed fe\nseals seal\n"  # by the incident's indexer
+MISFORMED = "line %d is not a word, one space and its stem, of at most 64 small letters each, "
+MISFORMED += 'and a line feed: "%s"'
+
+
+def vocabulary_example():
+    """A file and standard input: the incident's list, lists that are right, the published one, and
+    lines that are not of the form, of which no byte reaches a terminal as it is."""
+    published_list = vocabulary_of(published().items())
+    first_otherwise = list(published()).index(b"as") + 1
+    long = b"a" * 65
+    for content, told in (
+        (SUPPLIED, 'line 2 is wrong: feed has the stem feed, and not "fe"'),
+        (SUPPLIED.replace(b" fe\n", b" feed\n"), "3 lines, every one right"),
+        (b"feeds feed\n", "1 line, every one right"),
+        (b"", "0 lines, every one right"),
+        (b"s \n", 'line 1 is wrong: s has the stem s, and not ""'),
+        (published_list, f'line {first_otherwise} is wrong: as has the stem as, and not "a"'),
+        (vocabulary_of(right_pairs()) * 3, "91284 lines, every one right"),
+        (SUPPLIED + b"valves\n", MISFORMED % (4, "valves")),
+        (SUPPLIED[:-1], MISFORMED % (3, "seals seal")),
+        (b"\n", MISFORMED % (1, "")),
+        (b"feeds feed\r\n", MISFORMED % (1, r"feeds feed\x0d")),
+        (b"\x1b[2Jfeed\t\xe9\0\x7f~\n", MISFORMED % (1, r"\x1b[2Jfeed\x09\xe9\x00\x7f~")),
+        (b"us us\n" + long + b" " + long + b"\n", MISFORMED % (2, f"{'a' * 65} {'a' * 14}..")),
+    ):
+        wanted = f"{told}\n".encode(), [], 0 if told.endswith("right") else 1
+        yield on_file(VOCABULARY, content), wanted
+        yield ran(VOCABULARY, content), wanted
+
+
+def vocabulary_example_failures():
+    """What cannot be read or written is said, with the status 2."""
+    for name, why in (("/no/file", "No such file or directory"), ("/", "Is a directory")):
+        yield ran([*VOCABULARY, name], b""), (b"", [f"check_vocabulary: {name}: {why}"], 2)
+    yield ran([*VOCABULARY, "one", "other"], b""), (b"", ["usage: check_vocabulary [FILE]"], 2)
+    with open("/dev/full", "wb") as full:
+        run = subprocess.run(VOCABULARY, input=SUPPLIED, stdout=full, stderr=subprocess.PIPE)
+    said = b"check_vocabulary: standard output: No space left on device\n"
+    yield (b"", run.stderr, run.returncode), (b"", said, 2)

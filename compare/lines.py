@@ -194,13 +194,18 @@ TRIED = [(b"", b""), (b"", b"group\n"), (b"group\n", b"group opened\n")]
 TRIED += [(b"group\n", line + b"\n") for line in list(samples.RULE_LINES)[:14]]
 
 
+def with_each_byte(text, put_in=BYTES):
+    """Each byte of a text left out, and every byte in its place; and between each two, and at both
+    ends, each of `put_in`."""
+    size = len(text)
+    texts = [text[:at] + byte + text[at + 1 :] for at in range(size) for byte in (b"", *BYTES)]
+    return texts + [text[:at] + byte + text[at:] for at in range(size + 1) for byte in put_in]
+
+
 def every_byte(batch):
-    """Each byte of a line left out, and every byte in its place; and between each two a byte put in,
-    in the shorter lines every one."""
+    """Every byte in every place of a line; and put in, in the shorter lines every one."""
     before, line = TRIED[batch]
-    put_in = BYTES if len(line) <= 13 else NEAR_BYTES
-    texts = [line[:at] + byte + line[at + 1 :] for at in range(len(line)) for byte in [b"", *BYTES]]
-    texts += [line[:at] + byte + line[at:] for at in range(len(line) + 1) for byte in put_in]
+    texts = with_each_byte(line, BYTES if len(line) <= 13 else NEAR_BYTES)
     return [(MAKE, before + text, b"\7" * 50) for text in texts]
 
 

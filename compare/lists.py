@@ -8,7 +8,7 @@ import struct
 
 import list_samples
 import samples
-from lines import BYTES
+from lines import with_each_byte
 from list_samples import listed
 from patterns import by_pattern
 from probing import LOOKUP, TEXT_WITH_LIST, WORD_WITH_LIST
@@ -186,13 +186,10 @@ TRIED = [CLOSE, listed(b"us", b"u") + CLOSE, listed(b"s", b"x") + listed(b"is", 
 
 
 def every_byte(batch):
-    """Each byte of a list left out, and every byte in its place; and between each two every one.
-    With a word, and with a text, in turn."""
-    tried, word = TRIED[batch], (b"s", b"us", b"is")[batch]
-    size = len(tried)
-    lists = [tried[:at] + byte + tried[at + 1 :] for at in range(size) for byte in (b"", *BYTES)]
-    lists += [tried[:at] + byte + tried[at:] for at in range(size + 1) for byte in BYTES]
+    """Every byte in every place of a list, with a word, and with a text, in turn."""
+    word = (b"s", b"us", b"is")[batch]
     kinds = itertools.cycle((WORD_WITH_LIST, TEXT_WITH_LIST))
+    lists = with_each_byte(TRIED[batch])
     return [(kind, exceptions, word) for kind, exceptions in zip(kinds, lists)]
 
 

@@ -1,4 +1,4 @@
-"""All ten kinds of request at once, in one run of probe: what one request leaves behind must not
+"""All eleven kinds of request at once, in one run of probe: what one request leaves behind must not
 show in the next."""
 
 import random
@@ -8,6 +8,7 @@ import lists
 import sheets
 import tables
 import texts
+import vocabularies
 import words
 from sets import Set
 
@@ -30,6 +31,8 @@ MAKERS = [
     lists.well_formed_lists,
     lists.damaged_lists,
     lists.bounded_lists,
+    vocabularies.wrong_vocabularies,
+    vocabularies.damaged_vocabularies,
 ]
 EACH = 250  # requests of a maker in a batch
 

@@ -19,8 +19,9 @@ EMULATE = HERE.parent / "tools/emulate"
 PROBE = [EMULATE, HERE.parent / "target/bin/probe"]
 
 WORD, TEXT, NEXT, CHECK, TRANSLATE, RUN, MAKE = range(1, 8)
-LOOKUP, WORD_WITH_LIST, TEXT_WITH_LIST = range(8, 11)
+LOOKUP, WORD_WITH_LIST, TEXT_WITH_LIST, VOCABULARY = range(8, 12)
 UNNUMBERED = (NEXT, LOOKUP)  # these return no number of 01's list
+ONLY_READ = (NEXT, CHECK, VOCABULARY)  # these are lent nothing to write
 ENDED = b"\xff"  # what probe writes at a request that is cut short, unknown or over its bounds
 
 BY_SECOND = {
@@ -34,6 +35,7 @@ BY_SECOND = {
     LOOKUP: second.lookup,
     WORD_WITH_LIST: second.word_with_list,
     TEXT_WITH_LIST: second.text_with_list,
+    VOCABULARY: second.check_vocabulary,
 }
 
 
@@ -76,8 +78,8 @@ def decoded(request, coded):
     first = 0 if request[0] == NEXT else 1
     if len(coded) < first + 4 * values:
         return coded
-    place = coded[first + 4 * values :]
-    return (*coded[:first], *struct.unpack_from(f"<{values}I", coded, first), place)
+    answer = (*coded[:first], *struct.unpack_from(f"<{values}I", coded, first))
+    return answer if request[0] in ONLY_READ else (*answer, coded[first + 4 * values :])
 
 
 def through(program, coded):

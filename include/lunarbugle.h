@@ -2,7 +2,7 @@
  *
  * Link with liblunarbugle.a (rt staticlib lunarbugle). No entry keeps a pointer, allocates, or reads or writes anything but
  * the bytes it is lent. Every entry takes any bytes and always returns, on a machine that has the stack for it: at most 616
- * bytes for a word, 696 for a word with an exception list and 824 for a text, on x86-64.
+ * bytes for a word, 696 for a word with an exception list, 824 for a text and 760 for a vocabulary, on x86-64.
  *
  * Numbers returned:
  *   0  done
@@ -12,6 +12,7 @@
  *   4  some group's result is longer than the word's place (the shipped rules never give it)
  *   5  the text has more than 65,536 bytes
  *  10  the exception list has a faulty record. Only the entries with a list give it, and before 1, 2, 4 and 5
+ *  11  a line of the vocabulary is not of the form. Only lunarbugle_vocabulary gives it
  * A refusal, that is any number but 0, leaves every lent byte as it was.
  */
 #ifndef LUNARBUGLE_H
@@ -68,6 +69,17 @@ uint64_t lunarbugle_stem_listed(const uint8_t *list, size_t list_len, uint8_t *w
  * Returns what lunarbugle_text returns, or 10, plus 256 times that offset, which takes the room of both counts. */
 uint64_t lunarbugle_text_listed(const uint8_t *list, size_t list_len, uint8_t *text, size_t len);
 
+/* Checks the len bytes at list, a supplier's vocabulary of any size, which is only read. Each line is a word of 1 to 64 small letters,
+ * one space, its stem, of 0 to 64 small letters, and a line feed, which the last line has too:
+ *
+ *   pumps pump
+ *   feed fe
+ *
+ * Returns 0, plus 256 times the number, from 1, of the first line whose stem is not the one that lunarbugle_stem gives its word: above
+ * 0 + 256 * 2. Plain 0 says that every line is right, as in a list of 0 bytes. Returns 11, plus 256 times the number of the first line
+ * that is not of this form, if there is one anywhere in the list: then nothing is said of any stem. */
+uint64_t lunarbugle_vocabulary(const uint8_t *list, size_t len);
+
 #ifdef __cplusplus
 }
 #endif
@@ -107,6 +119,13 @@ static inline size_t lunarbugle_words_left(uint64_t answer)
 /* The offset in the list at which its first faulty record starts, in an answer whose number is 10, of a word or of a text: at most
  * the list's length. */
 static inline size_t lunarbugle_faulty_record(uint64_t answer)
+{
+    return (size_t)(answer / 256);
+}
+
+/* The number, from 1, of the line that an answer of lunarbugle_vocabulary names: with 11 the first that is not of the form, with 0 the
+ * first whose stem is wrong, or 0 where every line is right. */
+static inline size_t lunarbugle_line(uint64_t answer)
 {
     return (size_t)(answer / 256);
 }

@@ -13,6 +13,7 @@ r"""The inputs that the wrong versions name, as a reader writes them:
     word cats with the list cats→cat, close
     text "Cats" with the list cats→cat, close
     check of the list cats→cat, close          how many words it lists, or the place of its first faulty record
+    vocabulary "feed fe\n"
     call numbers::pair(1, 2)                   a function itself; `on the room "cats"` lends it bytes of that name
 """
 
@@ -26,7 +27,7 @@ from pathlib import Path
 ROOT = Path(__file__).resolve().parent.parent
 sys.path.insert(0, str(ROOT / "compare"))
 
-from probing import CHECK, LOOKUP, MAKE, NEXT, RUN, TEXT, TEXT_WITH_LIST, TRANSLATE, WORD, WORD_WITH_LIST
+from probing import CHECK, LOOKUP, MAKE, NEXT, RUN, TEXT, TEXT_WITH_LIST, TRANSLATE, VOCABULARY, WORD, WORD_WITH_LIST
 from second.lists import LISTED
 from second.sheets import END, GROUP, RULE, Faulty, read_sheet, record
 from second.tables import nodes_of
@@ -123,6 +124,7 @@ REQUESTS = [
     (rf"word ({BYTES}) with the list (.*)", lambda word, exceptions: (WORD_WITH_LIST, list_of(exceptions), bytes_of(word))),
     (rf"text ({BYTES}) with the list (.*)", lambda text, exceptions: (TEXT_WITH_LIST, list_of(exceptions), bytes_of(text))),
     ("check of the list (.*)", check_of_list),
+    (f"vocabulary ({BYTES})", lambda vocabulary: (VOCABULARY, bytes_of(vocabulary))),
 ]
 
 

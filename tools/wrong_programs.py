@@ -10,7 +10,7 @@ from pathlib import Path
 from wrong_edits import CRATES, ROOT, edited
 from wrong_inputs import Call, program_of, values_of
 
-from probing import CHECK, EMULATE, ENDED, LOOKUP, NEXT, TRANSLATE, coded_request, decoded  # of compare/, which wrong_inputs finds
+from probing import EMULATE, ENDED, LOOKUP, TRANSLATE, coded_request, decoded  # of compare/, which wrong_inputs finds
 
 KIT_LIBRARIES = ["std", "libc", "io"]
 SECONDS = 20  # more than any right run takes
@@ -116,8 +116,6 @@ def parts_of(request, answer):
     if isinstance(answer, bytes):  # too few for an answer
         return [answer]
     parts = list(answer)
-    if request[0] in (NEXT, CHECK) and parts[-1] == b"":  # nothing was lent
-        parts.pop()
     if request[0] == LOOKUP and len(parts) == 3:  # a length, which the bytes tell too
         parts.pop(1)
     if request[0] == TRANSLATE and isinstance(parts[-1], bytes):

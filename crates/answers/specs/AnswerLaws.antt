@@ -7,7 +7,7 @@ use Rattle.paper.specs.Settled.{Told, settled}
 use Rattle.paper.specs.Words.{Judgement, taken, turnedDown}
 use Rattle.answers.specs.Answers.{numberOf, valueOf, judgementOf, Check, tells, numberOfTranslated, valueOfTranslated}
 use Rattle.answers.specs.Answers.{numberOfMade, valueOfMade, numberOfRan, valueOfRan}
-use Rattle.answers.specs.Answers.{Said, saysList, numberOfListed, valueOfListed}
+use Rattle.answers.specs.Answers.{Said, saysList, numberOfListed, valueOfListed, saysVocabulary}
 use Rattle.answers.specs.declared.Answer.{Answer}
 use Rattle.answers.specs.declared.Answer.the-variants.{Done, WrongLength, OtherByte, Outgrown}
 use Rattle.answers.specs.declared.Judged.{Judged}
@@ -24,6 +24,8 @@ use Rattle.answers.specs.declared.ListChecked.{ListChecked}
 use Rattle.answers.specs.declared.ListChecked.the-variants.{Accepted as Taken-in, Refused as Faulty-list}
 use Rattle.answers.specs.declared.ListedWord.{ListedWord}
 use Rattle.answers.specs.declared.ListedWord.the-variants.{Word as Of-word, Refused as No-word}
+use Rattle.answers.specs.declared.VocabularyChecked.{VocabularyChecked}
+use Rattle.answers.specs.declared.VocabularyChecked.the-variants.{FirstWrong, Line as Misformed}
 
 -- ## A word
 
@@ -135,3 +137,16 @@ listed-is (No-word place) = refl
 
 abbrev pub listedWords : Told ListedWord
 listedWords = record { number = numberOfListed; value = valueOfListed; back = listedOf; back-is = listed-is }
+
+-- ## A supplier's vocabulary
+
+unfoldable vocabularySaid : Said → VocabularyChecked
+vocabularySaid said = cond (eqb (said .number) 0) (FirstWrong (said .value)) (Misformed (said .value))
+
+vocabulary-is : (answer : VocabularyChecked) → vocabularySaid (saysVocabulary answer) ≡ answer
+unfolding vocabularySaid
+vocabulary-is (FirstWrong line) = refl
+vocabulary-is (Misformed line) = refl
+
+pub vocabulary-one : (one other : VocabularyChecked) → saysVocabulary one ≡ saysVocabulary other → one ≡ other
+vocabulary-one one other same = sym (vocabulary-is one) ∙ ap vocabularySaid same ∙ vocabulary-is other

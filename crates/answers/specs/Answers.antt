@@ -21,6 +21,8 @@ use Rattle.answers.specs.declared.ListedWord.{ListedWord}
 use Rattle.answers.specs.declared.ListedWord.the-variants.{Word as Of-word, Refused as No-word}
 use Rattle.answers.specs.declared.ListedText.{ListedText}
 use Rattle.answers.specs.declared.ListedText.the-variants.{Text as Of-text, Refused as No-text}
+use Rattle.answers.specs.declared.VocabularyChecked.{VocabularyChecked}
+use Rattle.answers.specs.declared.VocabularyChecked.the-variants.{FirstWrong, Line as Misformed}
 
 -- ## A word
 
@@ -151,3 +153,11 @@ stemmedOfListed (No-text place) = place
 abbrev pub leftOfListed : ListedText → ℕ
 leftOfListed (Of-text answer) = leftOf answer
 leftOfListed (No-text place) = 0
+
+-- ## A supplier's vocabulary
+
+-- document 02, W-207: "Number 0 returns that line, or 0 exactly when every line is right"; "11, the first line not of this form, with its
+-- number"
+abbrev pub saysVocabulary : VocabularyChecked → Said
+saysVocabulary (FirstWrong line) = record { number = 0; value = line }
+saysVocabulary (Misformed line) = record { number = 11; value = line }

@@ -4,6 +4,7 @@ ghost use Rattle.paper.specs.Words.{judged, judgedBy};
 ghost use Rattle.answers.specs.Answers.{numberOf, valueOf, numberOfText, stemmedOf, leftOf};
 ghost use Rattle.answers.specs.Answers.{numberOfMade, valueOfMade};
 ghost use Rattle.answers.specs.Answers.{numberOfListed, valueOfListed, numberOfListedText, stemmedOfListed, leftOfListed};
+ghost use Rattle.answers.specs.Answers.{saysVocabulary};
 ghost use Rattle.answers.specs.Answers.{tells, numberOfTranslated, valueOfTranslated, numberOfRan, valueOfRan, judgementOf};
 
 // What a call on a word answers.
@@ -86,6 +87,14 @@ pub enum ListedText {
     Text(TextRun),
     // 10: the place of the list's first faulty record.
     Refused(usize),
+}
+
+// What a check of a supplier's vocabulary answers.
+pub enum VocabularyChecked {
+    // 0: the number, from 1, of the first line whose stem is not the word's; 0 where every line is right.
+    FirstWrong(usize),
+    // 11: the number, from 1, of the first line that is not of the form.
+    Line(usize),
 }
 
 // What is said of a word before it is read.
@@ -269,6 +278,22 @@ pub fn of_listed_text(answer: ListedText) -> TextReply
             number: 10,
             stemmed: offset,
             left: 0,
+        },
+    }
+}
+
+pub fn of_vocabulary(answer: VocabularyChecked) -> Reply
+    ensures { λ r. ⌜ r .number ≡ saysVocabulary answer .number ⌝ }
+    ensures { λ r. ⌜ r .value ≡ saysVocabulary answer .value ⌝ }
+{
+    match answer {
+        VocabularyChecked::FirstWrong(wrong) => Reply {
+            number: 0,
+            value: wrong,
+        },
+        VocabularyChecked::Line(misformed) => Reply {
+            number: 11,
+            value: misformed,
         },
     }
 }

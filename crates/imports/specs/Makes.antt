@@ -1,6 +1,5 @@
 -- Document 02, W-202: the sheet that lines name, which lines are taken, and what a call of the importer gives. Nothing here reads a text.
 use Prim.Native.Nat.{ℕ, suc, _≤_, _<_}
-use mathlib.Core.Path.{_≡_}
 use mathlib.Core.Bool.{Bool, not, _&&_}
 use mathlib.Core.List.{List, [], _∷_}
 use lib.ListN.{length}
@@ -11,7 +10,7 @@ use Rattle.records.specs.RecordBytes.{gateBody, ruleBody}
 use Rattle.sheets.specs.Sheets.{faulty}
 use Rattle.sheets.specs.SheetBytes.{sheetOf}
 use Rattle.places.specs.Written.{writtenTo}
-use Rattle.printed.specs.Printed.{TakenTo}
+use Rattle.printed.specs.Printed.{Whole, FirstFault}
 use Rattle.lines.specs.Lines.{Line, group, rule, print, form}
 
 -- ## The sheet that lines name
@@ -54,15 +53,11 @@ taken before line = form line && not (faulty (groupLines before) (ruleLines befo
 
 -- the text is these lines, and each of them is taken
 abbrev pub WholeText : List ℕ → List Line → Type 0
-WholeText text lines = TakenTo print taken text lines []
+WholeText text lines = Whole print taken text lines
 
--- the first line at fault has this number, from 1: the lines before it are taken, and the text goes on with no line that is
-pub record FirstAtFault (text : List ℕ) (number : ℕ) : Type 0 where
-  pub before : List Line
-  pub rest : List ℕ
-  pub to-it : TakenTo print taken text before rest
-  pub some-line : 0 < length rest
-  pub number-is : number ≡ suc (length before)
+-- the first line at fault has this number, from 1
+abbrev pub FirstAtFault : List ℕ → ℕ → Type 0
+FirstAtFault text number = FirstFault print taken text number
 
 -- ## A call
 -- what a call on a text and a lent sheet gives: the number, the value, and what the sheet is afterwards

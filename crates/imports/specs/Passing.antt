@@ -1,6 +1,6 @@
 -- The way through the lines of a text: what is known at each line, and what the pass leaves.
 use Prim.Native.Nat.{ℕ, zero, suc, _+_, _*_, _-_, _≤_, _<_}
-use mathlib.Core.Path.{_≡_, refl, sym, ap, _∙_}
+use mathlib.Core.Path.{_≡_, refl, ap, _∙_}
 use mathlib.Core.Bool.{true, false, not, _&&_, _||_, or-true}
 use mathlib.Core.List.{List, [], _∷_, _++_}
 use native.Mathlib.Numerals.{add-one}
@@ -18,7 +18,8 @@ use Rattle.sheets.specs.Sheets.{misplacedGroup, misplacedRule}
 use Rattle.sheets.specs.SheetSteps.{few-groups, few-rules}
 use Rattle.places.specs.Written.{Wrote, Appends, nothing-yet}
 use Rattle.printed.specs.Printed.{TakenTo}
-use Rattle.printed.specs.PrintedLaws.{got, Passed, no-line-yet, at-nothing, at-fault, one-more, at-end, taken-one}
+use Rattle.printed.specs.PrintedLaws.{got, Passed, no-line-yet, at-nothing, at-fault, one-more, at-end}
+use Rattle.printed.specs.LineNumbers.{first-here, not-both, same-lines}
 use Rattle.lines.specs.Lines.{Line, group, rule, print}
 use Rattle.lines.specs.Reading.{foundIn, ruleOf, told, readLine}
 use Rattle.lines.specs.PartLaws.{inside}
@@ -89,13 +90,9 @@ module _ {text lent : List ℕ} {at groups rules size : ℕ} {sheet : List ℕ} 
   -- ## The first line at fault
   at-this : TakenTo print taken text (state .before) rest → at < length text → FirstAtFault text (groups + rules + 1)
   at-this to inside-text =
-      record {
-        before = state .before;
-        rest = rest;
-        to-it = to;
-        some-line = omega (arith, length-drop at text);
-        number-is = rw add-one (ap suc (sym (lines-counted (state .before) ∙ rw (← state .groups-are, ← state .rules-are) refl)));
-      }
+      let number : length (state .before) ≡ groups + rules =
+      lines-counted (state .before) ∙ rw (← state .groups-are, ← state .rules-are) refl in
+      rw (add-one, ← number) (first-here to (omega (arith, length-drop at text)))
 
   pub wrong-line : at < length text → foundIn rest ≡ Wrong → FirstAtFault text (groups + rules + 1)
   unfolding readLine
@@ -228,13 +225,11 @@ module _ {text lent after : List ℕ} {size : ℕ} (sheet : List ℕ) (passed : 
   pub sheet-given : {later : List ℕ} → size ≤ length sheet → (again : Pass) → PassedTo text sheet again later
       → MakesTo text sheet 0 size later
   sheet-given fits (Sheet other) second =
-      let same = taken-one reads of-form (second .whole) (passed .whole) .0 in
+      let same = same-lines reads of-form (second .whole) (passed .whole) in
       let wrote = rw same at (second .wrote) in
       let stands = wrote .stand (rw (passed .size-is) at fits) in
       rw (stands, passed .size-is) (Makes.made (passed .lines) (passed .whole) (rw (passed .size-is) at fits))
-  sheet-given fits (Fault number) second =
-      let none = taken-one reads of-form (second .to-it) (passed .whole) .1 in
-      absurd (omega (arith, second .some-line, ap length none))
+  sheet-given fits (Fault number) second = absurd (not-both reads of-form second (passed .whole))
 
 -- bytes that were lent and are none
 pub none-lent : (none sheet : List ℕ) → length none ≡ 0 → none ++ sheet ≡ sheet

@@ -17,10 +17,6 @@ unfolding numberOf
 number-alike f g k [] e = refl
 number-alike f g k (one ∷ more) e = rw (e .0, number-alike f g (suc k) more (e .1))
 
-pub every-map : {A : Type 0} (P Q : A → Type 0) → ((one : A) → P one → Q one) → (list : List A) → Every P list → Every Q list
-every-map P Q f [] e = tt
-every-map P Q f (one ∷ more) e = (f one (e .0), every-map P Q f more (e .1))
-
 -- a rule ends at this node, so what is known of all is known of it
 pub of-one : (P : Node → Type 0) (k : ℕ) (list : List Node) (one : Node) → Every P list → (numberOf (sameNode one) k list ≡ 0 → ⊥) → P one
 unfolding numberOf

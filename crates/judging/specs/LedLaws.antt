@@ -10,7 +10,7 @@ use lib.ListN.{length}
 use borrow.Author.Tests.{eqb-true, eqb-false, eq-eqb}
 use Rattle.paper.specs.Groups.{Rule, Group}
 use Rattle.paper.specs.Numbered.{numberOf, firstWith}
-use Rattle.paper.specs.NumberedLaws.{Every}
+use Rattle.paper.specs.NumberedLaws.{Every, every-map}
 use Rattle.paper.specs.TestLaws.{by-test, test-ext}
 use Rattle.paths.specs.Children.{letter, childCount, firstRule, nodesIn}
 use Rattle.walks.specs.Walk.{reached, held}
@@ -24,7 +24,7 @@ use Rattle.forests.specs.ForestChildren.{child-found, lower}
 use Rattle.forests.specs.ForestPaths.{goes-on, reached-in, not-root, one-path}
 use Rattle.judging.specs.Led.{isAt, endsAt, Led}
 use Rattle.judging.specs.TailsLed.{ending-of, ending-leads}
-use Rattle.judging.specs.EndLaws.{number-alike, every-map, of-one}
+use Rattle.judging.specs.EndLaws.{number-alike, of-one}
 
 is-at : (i : ℕ) (found : Option ℕ) → isAt i found ≡ true → found ≡ some i
 unfolding isAt

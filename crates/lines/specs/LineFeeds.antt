@@ -10,17 +10,9 @@ use borrow.Author.Tests.{ltb-true}
 use Rattle.paper.specs.Letters.{letters}
 use Rattle.paper.specs.Groups.{Action, replace, single-letter, written, always, if-opened}
 use Rattle.paper.specs.TestLaws.{and-parts}
-use Rattle.paper.specs.Words.{small, allSmall}
-use Rattle.printed.specs.PrintedLaws.{feeds, feeds-append}
+use Rattle.paper.specs.Words.{allSmall}
+use Rattle.printed.specs.LineNumbers.{feeds, feeds-append, small-feeds}
 use Rattle.lines.specs.Lines.{Line, group, rule, spellings, spelling, part, action, print, form}
-use Rattle.lines.specs.PartLaws.{small-apart}
-
-small-feeds : (word : List ℕ) → allSmall word ≡ true → feeds word ≡ 0
-unfolding feeds allSmall
-small-feeds [] all = refl
-small-feeds (x ∷ word) all =
-    let both = and-parts (small x) (allSmall word) all in
-    rw (small-apart x 10 (both .0) refl, small-feeds word (both .1)) refl
 
 part-feeds : (word : List ℕ) → allSmall word ≡ true → feeds (part word) ≡ 0
 unfolding feeds part letters

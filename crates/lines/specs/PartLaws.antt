@@ -6,14 +6,14 @@ use mathlib.Core.List.{List, [], _∷_, _++_, append-assoc}
 use native.Mathlib.Numerals.{add-one}
 use native.Mathlib.Omega.{arith}
 use lib.Dec.{eqb, ltb}
-use lib.ListN.{length, take, drop, getD, length-append, take-append-drop, length-take, length-drop}
-use lib.Seq.{drop-cons, drop-drop, take-all}
+use lib.ListN.{length, take, drop, getD, length-append, take-append-drop, length-take}
+use lib.Seq.{drop-cons, drop-drop}
 use borrow.Author.Tests.{eqb-true, eq-eqb, ne-eqb, lt-ltb, ltb-true}
 use Rattle.paper.specs.Letters.{letters}
 use Rattle.paper.specs.Groups.{gateOf}
 use Rattle.paper.specs.TestLaws.{by-test, and-parts}
 use Rattle.paper.specs.Words.{small, allSmall, firstOther}
-use Rattle.paper.specs.WordsLaws.{first-small, first-inside, first-behind}
+use Rattle.paper.specs.WordsLaws.{small-apart, first-small, first-inside, first-behind}
 use Rattle.lines.specs.Lines.{group, spellings, spelling, part, print}
 use Rattle.lines.specs.Reading.{startsWith, takenBy, spelled, spelledIn, headIn, partIn, closeIn}
 use Rattle.lines.specs.declared.parts.Head.{Head}
@@ -77,10 +77,6 @@ module _ (front rest : List ℕ) (i : ℕ) (in-front : i < length front) (in-res
   unfolding startsWith
   starts-not other =
       rw (drop-cons front i 0 in-front, drop-cons rest i 0 in-rest, ne-eqb (getD front i 0) (getD rest i 0) (λ same. other (sym same)))
-
--- a small letter is no other byte
-pub small-apart : (x y : ℕ) → small x ≡ true → small y ≡ false → eqb x y ≡ false
-small-apart x y one other = ne-eqb x y (λ same. true≢false (sym one ∙ (rw same other)))
 
 other-apart : (x y : ℕ) → small x ≡ false → small y ≡ true → eqb x y ≡ false
 other-apart x y other one = ne-eqb x y (λ same. true≢false (sym one ∙ (rw (← same) other)))
@@ -225,7 +221,3 @@ close-here rest =
 
 pub close-found : (rest : List ℕ) (found : Close) → closeIn rest ≡ found → CloseHere rest found
 close-found rest found is = subst (CloseHere rest) is (close-here rest)
-
--- ## A part of the bytes that goes to their end
-pub to-the-end : (l : List ℕ) (at : ℕ) → take (length l - at) (drop at l) ≡ drop at l
-to-the-end l at = take-all (length l - at) (drop at l) (omega (arith, length-drop at l))

@@ -10,6 +10,7 @@ use lib.Seq.{drop-drop, drop-append-seam, take-append-seam}
 use borrow.Author.Tests.{ltb-true}
 use Rattle.paper.specs.Letters.{letters}
 use Rattle.paper.specs.Groups.{Rule, Action, replace, single-letter, written, actionOf, always, if-opened}
+use Rattle.paper.specs.ListLaws.{so-many}
 use Rattle.paper.specs.TestLaws.{and-parts}
 use Rattle.paper.specs.Words.{small, allSmall}
 use Rattle.printed.specs.Printed.{textOf}
@@ -18,7 +19,7 @@ use Rattle.lines.specs.Lines.{Line, group, rule, spellings, spelling, pa
 use Rattle.lines.specs.Reading.{startsWith, spelled, spelledIn, headIn, partIn, closeIn, closedAt, closedIn, unclosed}
 use Rattle.lines.specs.Reading.{afterArrow, afterCondition, foundIn, ruleOf, told, readLine}
 use Rattle.lines.specs.PartLaws.{starts-append, starts-otherwise, part-read}
-use Rattle.lines.specs.ReadingLaws.{so-many, sound}
+use Rattle.lines.specs.ReadingLaws.{sound}
 use Rattle.lines.specs.declared.Found.{Found}
 use Rattle.lines.specs.declared.Found.the-variants.{Rule as RuleFound}
 use Rattle.lines.specs.declared.RuleLine.{RuleLine}

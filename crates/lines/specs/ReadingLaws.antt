@@ -8,6 +8,7 @@ use lib.ListN.{length, take, drop, length-drop}
 use borrow.Author.Tests.{lt-ltb}
 use Rattle.paper.specs.Letters.{letters}
 use Rattle.paper.specs.Groups.{written, actionOf, gateOf}
+use Rattle.paper.specs.ListLaws.{so-many}
 use Rattle.paper.specs.TestLaws.{by-test, apart}
 use Rattle.paper.specs.Words.{allSmall}
 use Rattle.printed.specs.PrintedLaws.{got}
@@ -112,9 +113,6 @@ record Begun (rest : List ℕ) (condition start middle from : ℕ) : Type 0 wher
   small-first : allSmall (between rest start middle) ≡ true
   first-first : start ≤ middle
   first-inside : middle ≤ length rest
-
-pub so-many : (from count : ℕ) → from + count - from ≡ count
-so-many from count = omega arith
 
 regrouped : (c e arrow a : List ℕ) → (c ++ (e ++ arrow)) ++ a ≡ c ++ (e ++ (arrow ++ a))
 regrouped c e arrow a = simp append-assoc

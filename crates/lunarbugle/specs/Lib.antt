@@ -2,3 +2,4 @@
 pub mod Packed
 pub mod PackedLaws
 pub mod ListedLaws
+pub mod CheckLaws

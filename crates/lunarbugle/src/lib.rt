@@ -5,7 +5,7 @@ ghost use Rattle.paper.specs.Words.{outcome, stem};
 ghost use Rattle.lists.specs.Calls.{listedOutcome};
 ghost use Rattle.texts.specs.Texts.{textOutcome};
 ghost use Rattle.texts.specs.ListedTexts.{listedText};
-ghost use Rattle.lunarbugle.specs.Packed.{packed, packedText, packedListed, packedListedText};
+ghost use Rattle.lunarbugle.specs.Packed.{packed, packedText, packedListed, packedListedText, PacksCheck};
 
 // The word stemmer: 01's number, plus 256 times the value returned besides it.
 #[no_mangle]
@@ -55,4 +55,15 @@ pub extern "C" fn lunarbugle_text_listed(list: &[u8], text: &mut [u8]) -> u64
     let first = (reply.stemmed % 72057594037927936) as u64;
     let second = reply.left as u64;
     number + 256 * first + 4294967296 * second
+}
+
+// The check of a supplier's vocabulary: 01's number, plus 256 times the line's number.
+#[no_mangle]
+pub extern "C" fn lunarbugle_vocabulary(list: &[u8]) -> u64
+    ensures { λ r. ⌜ PacksCheck (now (list .entry)) r ⌝ }
+{
+    let reply = answers::of_vocabulary(vocabularies::check(list));
+    let number = reply.number as u64;
+    let line = (reply.value % 72057594037927936) as u64;
+    number + 256 * line
 }

@@ -27,6 +27,7 @@ pub mod NumberedLaws
 pub mod ChosenLaws
 pub mod TurnLaws
 pub mod LengthLaws
+pub mod SmallLaws
 pub mod WordsLaws
 -- Laws of the node count
 pub mod MemberLaws

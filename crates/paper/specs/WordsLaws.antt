@@ -2,8 +2,8 @@
 -- stem, and from the ways out of a call to its outcome, whatever reads the word.
 use Prim.Native.Nat.{ℕ, suc, _-_, _≤_, _<_, compare·suc-suc}
 use native.Mathlib.Omega.{arith}
-use mathlib.Core.Path.{_≡_, refl, sym}
-use mathlib.Core.Bool.{Bool, true, false, cond, not, _&&_}
+use mathlib.Core.Path.{_≡_, refl, sym, _∙_}
+use mathlib.Core.Bool.{Bool, true, false, cond, not, _&&_, true≢false}
 use mathlib.Core.List.{List, [], _∷_, _++_, append-nil}
 use lib.Dec.{eqb, ltb}
 use lib.ListN.{length, take, drop, getD, replicate}
@@ -14,7 +14,11 @@ use Rattle.paper.specs.TestLaws.{by-test, and-parts, or-right, neither-r
 use Rattle.paper.specs.Words.{readWord, stem, placed, wrongLength, small, allSmall, firstOther, Gives}
 use Rattle.paper.specs.Words.{taken, turnedDown, judged, judgedBy, readingOutcome, judgedOutcome, wordOutcome}
 
--- ## Small letters behind others
+-- ## Small letters
+
+-- one is no other byte
+pub small-apart : (x y : ℕ) → small x ≡ true → small y ≡ false → eqb x y ≡ false
+small-apart x y one other = ne-eqb x y (λ same. true≢false (sym one ∙ (rw same other)))
 
 pub all-small-append : (one other : List ℕ) → allSmall (one ++ other) ≡ (allSmall one && allSmall other)
 unfolding allSmall

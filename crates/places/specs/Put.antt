@@ -32,6 +32,12 @@ put-behind place part letters fits =
       take-length letters,
     )
 
+-- a word put into a place of its own length is all that stands there
+pub put-whole : (place word : List ℕ) → length place ≡ length word → putAt place 0 word ≡ word
+put-whole place word same =
+    let over = drop-of-length-le place {i = 0 + length word} (omega arith) in
+    put-fits place 0 word (omega arith) ∙ rw (take-length word, over, append-nil)
+
 -- a word that was put elsewhere and is put back stands there as it came
 pub put-back : (word zeros saved after back : List ℕ) (size : ℕ) → size ≡ length word → length word ≤ length zeros
     → saved ≡ putAt zeros 0 word
@@ -39,6 +45,4 @@ pub put-back : (word zeros saved after back : List ℕ) (size : ℕ) → size �
 put-back word zeros saved after back size s long kept same-long there =
     let put = put-fits zeros 0 word (omega arith) in
     let whole : take size saved ≡ word = rw (s, kept, put, take-length word) (take-append-seam word (drop (0 + length word) zeros)) in
-    let again = put-fits after 0 word (omega arith) in
-    let over = drop-of-length-le after {i = 0 + length word} (omega arith) in
-    there ∙ rw (whole, again, take-length word, over, append-nil)
+    there ∙ rw whole (put-whole after word same-long)

@@ -5,9 +5,8 @@ use mathlib.Core.Path.{_≡_, refl, sym, ap, _∙_}
 use mathlib.Core.Bool.{Bool, true, false, _&&_, true≢false}
 use mathlib.Core.List.{List, [], _∷_, _++_, append-assoc, append-nil}
 use native.Mathlib.Omega.{arith}
-use lib.Dec.{eqb}
 use lib.ListN.{length, length-append}
-use Rattle.paper.specs.TestLaws.{one-if, by-test, and-left, and-right, and-parts, apart}
+use Rattle.paper.specs.TestLaws.{by-test, and-left, and-right, and-parts, apart}
 use Rattle.printed.specs.Printed.{textOf, allTaken, TakenTo}
 
 -- ## A reader of one line
@@ -199,24 +198,3 @@ module _ {A : Type 0} {print : A → List ℕ} {form : A → Bool} {read : List 
 
     pub taken-some : (text : List ℕ) → (lines : List A) × (end : List ℕ) × TakenTo print taken text lines end
     taken-some text = taken-from (suc (length text)) (omega arith) (no-line-yet print taken text)
-
--- ## Lines are counted by line feeds
-unfoldable pub feeds : List ℕ → ℕ
-feeds [] = 0
-feeds (byte ∷ bytes) = one-if (eqb byte 10) + feeds bytes
-
-pub feeds-append : (l m : List ℕ) → feeds (l ++ m) ≡ feeds l + feeds m
-unfolding feeds
-feeds-append [] m = omega arith
-feeds-append (x ∷ l) m = let later = feeds-append l m in omega arith
-
--- where no line has one in it, so many lines are so many line feeds
-pub feeds-lines : {A : Type 0} (print : A → List ℕ) (form : A → Bool) → ((line : A) → form line ≡ true → feeds (print line) ≡ 0)
-    → (lines : List A) → allOf form lines ≡ true → feeds (textOf print lines) ≡ length lines
-unfolding feeds textOf allOf
-feeds-lines print form none [] all = refl
-feeds-lines print form none (line ∷ lines) all =
-    let both = and-parts (form line) (allOf form lines) all in
-    let here = none line (both .0) in
-    let later = feeds-lines print form none lines (both .1) in
-    omega (arith, feeds-append (print line) (10 ∷ textOf print lines))

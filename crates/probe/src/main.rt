@@ -12,6 +12,7 @@ use requests_sheets::sheet;
 use requests_sheets::table;
 use requests_words::list;
 use requests_words::text;
+use requests_words::vocabulary;
 use requests_words::word;
 
 // Answers the request that begins with this byte, and says whether it was whole and known.
@@ -26,6 +27,7 @@ fn answered(kind: u8) -> bool {
         7 => lines::answered(),
         8 | 9 => list::answered_word(kind),
         10 => list::answered_text(),
+        11 => vocabulary::answered(),
         _ => false,
     }
 }

@@ -31,10 +31,19 @@ pub struct Argument {
 pub fn read(space: &mut [u8]) -> Argument
     ensures { λ r. ⌜ Counts (r .length) (now (space .exit)) ⌝ }
 {
-    let mut four = [0u8; 4];
-    let got = io::read_full(STDIN_FILENO, &mut four);
-    let wanted = number(&four);
-    if got < 4 || wanted > space.len() {
+    let size = read_place();
+    let bytes = read_bytes(space, size.value);
+    Argument {
+        length: bytes.length,
+        whole: size.whole & bytes.whole,
+    }
+}
+
+// The same of an argument whose length was read.
+pub fn read_bytes(space: &mut [u8], wanted: usize) -> Argument
+    ensures { λ r. ⌜ Counts (r .length) (now (space .exit)) ⌝ }
+{
+    if wanted > space.len() {
         return Argument {
             length: 0,
             whole: false,

@@ -1,11 +1,12 @@
 // Request 8, a list and a word: whether the word is listed, and the part that the lookup hands back. Request 9, a list and a word, and
 // request 10, a list and a text: as requests 1 and 2, with a list.
+use crate::spaces;
 use requests::input;
 use requests::output;
 
 // Reads the arguments, answers, and says whether the request was whole. A list may have 70,000 bytes, a word 4,096.
 pub fn answered_word(kind: u8) -> bool {
-    let mut list_space = [0u8; 70000];
+    let mut list_space = spaces::of_text();
     let list = input::read(&mut list_space);
     if !list.whole {
         return false;
@@ -41,12 +42,12 @@ fn answer_word(list: &[u8], word: &mut [u8]) {
 
 // A text may have 70,000 bytes.
 pub fn answered_text() -> bool {
-    let mut list_space = [0u8; 70000];
+    let mut list_space = spaces::of_text();
     let list = input::read(&mut list_space);
     if !list.whole {
         return false;
     }
-    let mut text_space = [0u8; 70000];
+    let mut text_space = spaces::of_text();
     let text = input::read(&mut text_space);
     if !text.whole {
         return false;

@@ -1,11 +1,12 @@
 // Request 2, a text: the number returned, the words stemmed, the words left, and the text afterwards. Request 3, a text and a
 // place: the offset and the length of the next word from there.
+use crate::spaces;
 use requests::input;
 use requests::output;
 
 // Reads the text, answers, and says whether the request was whole. A text may have 70,000 bytes.
 pub fn answered_run() -> bool {
-    let mut space = [0u8; 70000];
+    let mut space = spaces::of_text();
     let text = input::read(&mut space);
     if !text.whole {
         return false;
@@ -23,7 +24,7 @@ fn answer_run(text: &mut [u8]) {
 }
 
 pub fn answered_next() -> bool {
-    let mut space = [0u8; 70000];
+    let mut space = spaces::of_text();
     let text = input::read(&mut space);
     let from = input::read_place();
     if !text.whole {

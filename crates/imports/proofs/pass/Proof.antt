@@ -10,7 +10,7 @@ use Rattle.sheets.specs.Sheets.{misplacedRule}
 use Rattle.records.specs.Records.{faultyRule}
 use Rattle.records.specs.RecordBytes.{ruleBody}
 use Rattle.lines.specs.Reading.{foundIn, ruleOf}
-use Rattle.lines.specs.PartLaws.{to-the-end}
+use Rattle.paper.specs.ListLaws.{to-the-end}
 use Rattle.lines.specs.ReadingLaws.{found-here}
 use Rattle.lines.specs.declared.Found.the-variants.{Group, Rule}
 use Rattle.imports.specs.Passing.{State, starts, wrong-line, group-fault, after-group, group-inside, rule-line, rule-misplaced}

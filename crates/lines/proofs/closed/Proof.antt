@@ -3,7 +3,7 @@ use borrow.Author.Needs.{needs}
 use lib.ListN.{drop}
 use mathlib.Core.Path.{_≡_, refl, sym, ap, _∙_}
 use Rattle.lines.specs.Reading.{closeIn, closedIn}
-use Rattle.lines.specs.PartLaws.{to-the-end}
+use Rattle.paper.specs.ListLaws.{to-the-end}
 use Rattle.lines.proofs.closed.Statement.{statement}
 use Rattle.lines.proofs.closed.Tie as tie
 

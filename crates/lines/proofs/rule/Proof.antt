@@ -6,7 +6,8 @@ use mathlib.Core.Path.{_≡_, refl, sym, ap, _∙_}
 use lib.ListN.{length, drop, length-drop}
 use Rattle.paper.specs.Letters.{letters}
 use Rattle.lines.specs.Reading.{startsWith, partIn, afterCondition}
-use Rattle.lines.specs.PartLaws.{starts-front, inside, LettersHere, part-found, to-the-end}
+use Rattle.lines.specs.PartLaws.{starts-front, inside, LettersHere, part-found}
+use Rattle.paper.specs.ListLaws.{to-the-end}
 use Rattle.lines.proofs.rule.Statement.{statement}
 use Rattle.lines.proofs.rule.Tie as tie
 
