@@ -31,7 +31,7 @@ pub struct Argument {
 pub fn read(space: &mut [u8]) -> Argument
     ensures { λ r. ⌜ Counts (r .length) (now (space .exit)) ⌝ }
 {
-    let size = read_place();
+    let size = read_number();
     let bytes = read_bytes(space, size.value);
     Argument {
         length: bytes.length,
@@ -87,16 +87,16 @@ fn numbers(bytes: &[u8], space: &mut [u16]) -> usize
     i
 }
 
-// A number that was read, as a place in a text, and whether all of its four bytes came.
-pub struct Place {
+// A number that was read, a length or a place in a text, and whether all of its four bytes came.
+pub struct NumberRead {
     pub value: usize,
     pub whole: bool,
 }
 
-pub fn read_place() -> Place {
+pub fn read_number() -> NumberRead {
     let mut four = [0u8; 4];
     let got = io::read_full(STDIN_FILENO, &mut four);
-    Place {
+    NumberRead {
         value: number(&four),
         whole: got == 4,
     }

@@ -26,7 +26,7 @@ fn answer_run(text: &mut [u8]) {
 pub fn answered_next() -> bool {
     let mut space = spaces::of_text();
     let text = input::read(&mut space);
-    let from = input::read_place();
+    let from = input::read_number();
     if !text.whole {
         return false;
     }

@@ -6,7 +6,7 @@ use requests::output;
 // Reads the vocabulary, answers, and says whether the request was whole. It may have 1,048,576 bytes. Most have far fewer, and a space
 // of the most takes longer to fill with zeros than they take to be checked.
 pub fn answered() -> bool {
-    let size = input::read_place();
+    let size = input::read_number();
     if !size.whole {
         return false;
     }
