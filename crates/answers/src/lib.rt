@@ -1,4 +1,6 @@
 // What each call answers, with document 01's numbers for it; and what is said of a word before it is read.
+#![tactic(auto)]
+
 ghost use Rattle.std.specs.Prelude.{◌≡◌};
 ghost use Rattle.paper.specs.Words.{judged, judged_by};
 ghost use Rattle.answers.specs.Answers.{number_of, value_of, number_of_text, stemmed_of, left_of};

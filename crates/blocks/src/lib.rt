@@ -1,5 +1,7 @@
 // Which endings of steps 2 to 4 are compared with a word at all: by its second last letter a block of the group's rules, and of these none
 // where the letters beside it are no ending's. So for most words no table is named.
+#![tactic(auto)]
+
 ghost use Rattle.std.specs.Prelude.{◌≡◌, true};
 ghost use Rattle.blocks.specs.Blocks.{member, passes, names};
 ghost use Rattle.blocks.specs.Indexes.{index_2, index_3, index_4};

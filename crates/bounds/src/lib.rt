@@ -1,4 +1,6 @@
 // The bounds that the numbers of a rule's record keep.
+#![tactic(auto)]
+
 ghost use Rattle.std.specs.Prelude.{◌≡◌, not, ◌&&◌, ◌||◌, eqb, ltb};
 ghost use Rattle.paper.specs.Conditions.{for_single, highest};
 

@@ -1,5 +1,7 @@
 // The nine conditions of document 01, by the states of a part and of one and two letters fewer: a look at two or three numbers and the
 // last letters. Every function takes any bytes and numbers; a number above 8 is no condition and does not hold.
+#![tactic(auto)]
+
 ghost use Rattle.std.specs.Prelude.{◌≡◌, leb, get_or, ℕ, ◌-◌, ◌<◌};
 ghost use Rattle.paper.specs.Letters.{letter_at};
 ghost use Rattle.paper.specs.States.{double_by, short_by, holds_by, reaches_by};

@@ -1,4 +1,6 @@
 // A word with an exception list: its listed stem, or the stem that it has without a list. Document 02, W-205, decides.
+#![tactic(auto)]
+
 ghost use Rattle.std.specs.Prelude.{◌≡◌};
 ghost use Rattle.paper.specs.Shipped.{shipped};
 ghost use Rattle.paper.specs.Words.{stem as stemOf};

@@ -1,4 +1,6 @@
 // Whether a table's nodes are a forest laid out by levels, and of how many nodes. Any numbers may be given.
+#![tactic(auto)]
+
 ghost use Rattle.std.specs.Prelude.{◌*◌, ◌<◌, ◌≤◌, length};
 ghost use Rattle.forests.specs.Shapes.{Told, Most, Bare, Rises, ShapedAs};
 

@@ -1,6 +1,8 @@
 // A group read from the rows of its table, whatever group it is: which rule a word obeys, by the states noted beside it, and what that
 // leaves. Every function takes any numbers; of a table that holds no such group, and of a word whose states are not noted, the
 // contracts say nothing.
+#![tactic(auto)]
+
 mod choosing;
 mod obeying;
 

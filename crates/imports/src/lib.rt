@@ -1,4 +1,6 @@
 // A sheet made from lines written as in the paper. Document 02, W-202, decides; `specs/Makes.antt` writes it down.
+#![tactic(auto)]
+
 ghost use Rattle.std.specs.Prelude.{◌≡◌, ◌+◌, ◌≤◌, ◌<◌, ◌^◌, false, [], length};
 ghost use Rattle.records.specs.Framing.{record_of};
 ghost use Rattle.records.specs.RecordBytes.{gate_body, rule_body};

@@ -1,5 +1,7 @@
 // Number 7, judged in the lent table itself: a table is the one that its sheet makes exactly if it is a forest laid out by levels
 // through which the rules' endings lead as they must.
+#![tactic(auto)]
+
 ghost use Rattle.std.specs.Prelude.{◌≡◌};
 ghost use Rattle.judging.specs.Judgements.{judgement};
 

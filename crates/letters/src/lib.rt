@@ -1,5 +1,7 @@
 // The class of a letter, the measure and the conditions of document 01, on byte slices; endings; and the states of a word, noted beside
 // it. Every function takes any bytes: a byte outside a to z is a consonant.
+#![tactic(auto)]
+
 ghost use Rattle.std.specs.Prelude.{◌≡◌, List, [], ◌∷◌, ◌++◌, ltb, ℕ, ◌+◌, ◌<◌, ◌≤◌, ◌^◌};
 ghost use Rattle.paper.specs.Letters.{vowel_after, measure as measureOf};
 ghost use Rattle.paper.specs.Conditions.{holds as holds_of};

@@ -1,5 +1,7 @@
 // A line of a sheet written as in the paper, read where the rest of a text begins with it. Document 02, W-202, decides; `specs/Lines.antt`
 // writes it down.
+#![tactic(auto)]
+
 mod parts;
 
 ghost use Rattle.std.specs.Prelude.{◌≡◌, ◌≤◌, length};

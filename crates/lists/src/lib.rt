@@ -1,4 +1,6 @@
 // Exception lists: the check of a list, and the stem that it has for a word. Document 02, W-205, decides; `specs/` writes it down.
+#![tactic(auto)]
+
 ghost use Rattle.std.specs.Prelude.{◌≡◌};
 ghost use Rattle.answers.specs.Answers.{says_list};
 ghost use Rattle.lists.specs.Lists.{faulty_entry};

@@ -1,4 +1,6 @@
 // The entries for hosts in C: each answers with packed numbers. `include/lunarbugle.h` declares them.
+#![tactic(auto)]
+
 ghost use Rattle.std.specs.Prelude.{◌≡◌};
 ghost use Rattle.paper.specs.Shipped.{shipped};
 ghost use Rattle.paper.specs.Words.{outcome, stem};

@@ -1,4 +1,6 @@
 // Bytes as numbers.
+#![tactic(auto)]
+
 ghost use Rattle.std.specs.Prelude.{◌≡◌, ◌+◌, ◌*◌, ◌<◌};
 
 // A byte as a number that an index can be.

@@ -59,7 +59,7 @@ step_after part letter letters =
 pub length_after : (after : Bool) (before : ℕ) (letters : List ℕ) → length (states_after after before letters) ≡ length letters
 unfolding states_after
 length_after after before [] = refl
-length_after after before (letter ∷ letters) = ap suc (length_after _ _ letters)
+length_after after before (letter ∷ letters) = ap suc (length_after (even (next_state after before letter)) (next_state after before letter) letters)
 
 -- ## The list
 

@@ -111,7 +111,7 @@ module _ {A : Type 0} where
         front = first ∷ later.front;
         one = later.one;
         back = later.back;
-        list_is = ap (λ (l : List A). first ∷ l) later.list-is;
+        list_is = ap (λ (l : List A). first ∷ l) later.list_is;
         none_before = (e, later.none_before);
         passes = later.passes;
         place_is = ap suc later.place_is;

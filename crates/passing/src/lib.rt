@@ -1,4 +1,6 @@
 // The records of a sheet that was accepted, read again: by their frames alone, and judged no more. Any bytes may be given.
+#![tactic(auto)]
+
 ghost use Rattle.std.specs.Prelude.{◌≡◌, ◌+◌, ◌<◌, length};
 ghost use Rattle.passing.specs.Passed.{passed_group, passed_rule, passed_at};
 

@@ -1,5 +1,7 @@
 // The numbers of a table, its nodes, and the paths that a word's and an ending's letters take through them. Any numbers may be given:
 // where the table has no number, 0 is read, and a node that it does not have holds no rule and has no child.
+#![tactic(auto)]
+
 ghost use Rattle.std.specs.Prelude.{◌≡◌, ◌<◌, get_or};
 ghost use Rattle.paper.specs.Letters.{inward};
 ghost use Rattle.walks.specs.Walk.{deepest as deepestOf, reached, held};

@@ -1,5 +1,7 @@
 // What a word of a text is: its letters, where the next one starts and ends, and the next one as a part of the caller's own
 // text; and the letter test of a word, a to z. Document 01, "The text run", decides; `specs/` writes it down.
+#![tactic(auto)]
+
 ghost use Rattle.std.specs.Prelude.{◌≡◌, drop};
 ghost use Rattle.paper.specs.Words.{all_small, first_other};
 ghost use Rattle.pieces.specs.Pieces.{is_letter, leading};

@@ -1,4 +1,6 @@
 // What is written in a word's place: letters put into it, and spaces behind the stem.
+#![tactic(auto)]
+
 ghost use Rattle.std.specs.Prelude.{◌≡◌, ◌++◌, ◌-◌, length, take};
 ghost use Rattle.paper.specs.Words.{spaces};
 ghost use Rattle.places.specs.Put.{put_at};

@@ -4,6 +4,8 @@
 // A request is one byte and its arguments; each kind of request has a file of its own, in
 // `requests_words` and `requests_sheets`. At a request that is cut short, has another first byte or
 // an argument over its bound, the program writes the byte 255 and ends.
+#![tactic(auto)]
+
 use requests::input::Start;
 use requests::{input, output};
 use requests_sheets::{lines, sheet, table};

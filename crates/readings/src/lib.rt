@@ -1,5 +1,7 @@
 // The shipped rules read group by group in the word's own place, from constant tables. The states of the word are noted beside it, so
 // that a condition is a look; a step whose rules only cut takes word and states as they are.
+#![tactic(auto)]
+
 ghost use Rattle.std.specs.Prelude.{◌≡◌, ◌≤◌, length, take};
 ghost use Rattle.paper.specs.Shipped.{group_1a, group_1b, follow_up, group_1c, group_2, group_3, group_4, group_5a, group_5b};
 ghost use Rattle.paper.specs.Words.{taken, judged, first_other};

@@ -1,4 +1,6 @@
 // One record of a sheet, judged by itself, and the reader that draws it. Any bytes may be given.
+#![tactic(auto)]
+
 ghost use Rattle.std.specs.Prelude.{◌≡◌, ◌+◌, ◌<◌, length};
 ghost use Rattle.records.specs.RecordAnswers.{record_at, group_record};
 

@@ -1,5 +1,7 @@
 // The shipped rules of document 01 as constant tables: "The list is held as a constant table". Each table is handed out by a
 // function whose contract ties it to the list in `paper`.
+#![tactic(auto)]
+
 ghost use Rattle.std.specs.Prelude.{◌≡◌};
 ghost use Rattle.paper.specs.Shipped.{group_1a, group_1b, follow_up, group_1c, group_2, group_3, group_4, group_5a, group_5b};
 ghost use Rattle.rules.specs.Rows.{rows_of};

@@ -1,4 +1,6 @@
 // Rule sheets: reading a whole sheet, and its check, which counts the nodes of its table too.
+#![tactic(auto)]
+
 ghost use Rattle.std.specs.Prelude.{◌≡◌, ◌&&◌, ◌||◌, eqb, leb};
 ghost use Rattle.answers.specs.Answers.{tells};
 ghost use Rattle.paper.specs.Nodes.{node_count};

@@ -1,4 +1,6 @@
 // The shipped rules as lines written as in the paper, as a sheet, and as the table of that sheet, as constants; and their run on a word.
+#![tactic(auto)]
+
 ghost use Rattle.std.specs.Prelude.{◌≡◌};
 ghost use Rattle.paper.specs.Shipped.{shipped};
 ghost use Rattle.paper.specs.Words.{read_word, word_outcome, Gives};

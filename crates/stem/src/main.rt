@@ -1,5 +1,7 @@
 // The program: it reads standard input to its end and writes the text after the run, or the line `refused 5` if more than
 // 65,536 bytes came. What could not be read or written is said on standard error, and then nothing claims success.
+#![tactic(auto)]
+
 ghost use Rattle.std.specs.Prelude.{◌≤◌, length};
 ghost use Rattle.stem.specs.Input.{came};
 

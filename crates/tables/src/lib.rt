@@ -1,4 +1,6 @@
 // The run of a table on a word.
+#![tactic(auto)]
+
 ghost use Rattle.paper.specs.Words.{Gives};
 ghost use Rattle.answers.specs.Answers.{number_of_ran, value_of_ran};
 ghost use Rattle.tables.specs.RunOutcomes.{run_outcome};

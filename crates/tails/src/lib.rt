@@ -1,5 +1,7 @@
 // How many nodes a rule brings to its group: its ending is held against the earlier endings of the group, found again in the
 // sheet. No table is built.
+#![tactic(auto)]
+
 ghost use Rattle.std.specs.Prelude.{◌≡◌, max, drop};
 ghost use Rattle.paper.specs.Nodes.{tails};
 ghost use Rattle.paper.specs.LookBack.{shared};

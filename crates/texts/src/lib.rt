@@ -1,5 +1,7 @@
 // The text run: every word of a text is rewritten where it stands. Document 01, "The text run", decides; `specs/` writes it
 // down.
+#![tactic(auto)]
+
 ghost use Rattle.std.specs.Prelude.{◌≡◌, ◌≤◌, true, map, length};
 ghost use Rattle.paper.specs.Shipped.{shipped};
 ghost use Rattle.paper.specs.Words.{all_small, stem};

@@ -1,4 +1,6 @@
 // The translation from a sheet to a table laid out by levels, in the lent table itself.
+#![tactic(auto)]
+
 ghost use Rattle.paper.specs.Words.{Gives};
 ghost use Rattle.answers.specs.Answers.{number_of_translated, value_of_translated};
 ghost use Rattle.translations.specs.Translations.{translation};

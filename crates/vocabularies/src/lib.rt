@@ -1,5 +1,7 @@
 // The check of a supplier's vocabulary: lines of a word and its stem. Document 02, W-207, decides; `specs/Vocabularies.antt` writes it
 // down.
+#![tactic(auto)]
+
 ghost use Rattle.std.specs.Prelude.{◌≡◌, length};
 ghost use Rattle.paper.specs.Words.{judged, taken};
 ghost use Rattle.answers.specs.Answers.{says_vocabulary};

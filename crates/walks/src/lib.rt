@@ -1,1 +1,2 @@
 // Walking a table, as definitions and laws: there is no code here.
+#![tactic(auto)]

@@ -1,5 +1,7 @@
 // The word stemmer: what is said of a word before it is read, the short words that stay, the shipped rules read in the place of the
 // others, and the spaces behind the stem.
+#![tactic(auto)]
+
 ghost use Rattle.paper.specs.Groups.{done};
 ghost use Rattle.paper.specs.Words.{word_outcome, outcome, Gives};
 ghost use Rattle.answers.specs.Answers.{number_of, value_of};

@@ -1,0 +1,6 @@
+-- `conditions::double` meets its contract.
+use borrow.Author.Rules.{rules}
+use Rattle.conditions.proofs.double.Goals as goal
+
+pub returns : goal.returns
+returns c = rw (c.letter_at.ensures, c.letter_at-2.ensures)

@@ -1,0 +1,39 @@
+use Prim.Native.Nat.{◌-◌}
+use borrow.Author.Rules.{rules}
+use native.Mathlib.Omega.{arith}
+use mathlib.Core.Path.{refl}
+use lib.ListN.{length}
+use Rattle.paper.specs.Letters.{letters}
+use Rattle.letters.specs.Scan.{class_table}
+use Rattle.letters.proofs.Steps.{Passing, step-asks, step_gives, all_passed}
+use Rattle.letters.proofs.scan.Goals as goal
+
+-- where the loop begins: the constant is the table of two rows, by computation
+pub loop-i-init : goal.loop-i-init
+unfolding class_table letters
+loop-i-init c = let made = c.nothing_passed-s.ensures in
+    (omega arith, refl, omega (arith, made.0), made.1)
+
+pub bounds-part-i : goal.bounds-part-i
+bounds-part-i c = omega arith
+
+pub step-s-requires : goal.step-s-requires
+step-s-requires c = let at = c.loop-i in
+    step-asks c.args.part.now _ at.s at.i at.invariant (omega arith)
+
+pub overflow_add-i : goal.overflow_add-i
+overflow_add-i c = omega arith
+
+pub loop-i-smaller : goal.loop-i-smaller
+loop-i-smaller c = omega arith
+
+pub loop-i-preserved : goal.loop-i-preserved
+loop-i-preserved c = let at = c.loop-i in
+    let ran = c.step-s in
+    let passing = step_gives c.args.part.now _ at.s
+    ran.result at.i c.loop-i-test.true at.invariant ran.ensures.0 ran.ensures.1 in
+    passing
+
+pub returns : goal.returns
+returns c = let at = c.loop-i in
+    all_passed c.args.part.now _ at.s at.i c.loop-i-test.false at.invariant

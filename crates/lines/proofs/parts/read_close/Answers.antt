@@ -1,0 +1,20 @@
+-- `lines::parts::read_close` meets its contract.
+use borrow.Author.Rules.{rules}
+use mathlib.Core.Path.{sym, ◌∙◌}
+use Rattle.paper.specs.Letters.{letters}
+use Rattle.lines.specs.Reading.{close_in}
+use Rattle.lines.proofs.parts.read_close.Goals as goal
+
+pub returns-then-starts : goal.returns-then-starts
+unfolding close_in letters
+returns-then-starts c = rw (sym c.starts.ensures ∙ c.if-starts.true)
+
+pub returns-then-starts-2 : goal.returns-then-starts-2
+unfolding close_in letters
+returns-then-starts-2 c = let first = c in
+    rw (sym first.starts.ensures ∙ first.if-starts.false, sym c.starts-2.ensures ∙ c.if-starts-2.true)
+
+pub returns : goal.returns
+unfolding close_in letters
+returns c = let first = c in
+    rw (sym first.starts.ensures ∙ first.if-starts.false, sym c.starts-2.ensures ∙ c.if-starts-2.false)

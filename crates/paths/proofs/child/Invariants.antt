@@ -1,0 +1,16 @@
+-- `paths::child` meets its contract: the child of a letter. The loop's invariant: what is found from here on is what is found
+-- from the first child on.
+use Prim.Native.Nat.{◌+◌, ◌<◌}
+use mathlib.Core.Path.{◌≡◌, sym, ◌∙◌}
+use lib.Dec.{lit<}
+use native.Mathlib.Omega.{arith}
+use borrow.Author.Rules.{rules}
+use Rattle.paths.specs.Children.{sought, child as childOf}
+use Rattle.paths.specs.ChildLaws.{child_beyond, sought_here, sought-past, sought_next, sought-over}
+use Rattle.paths.proofs.child.Given as goal
+
+abbrev pub invariant-loop-left : goal.invariant-loop-left
+invariant-loop-left l = (sought l.left l.table l.letter l.at ≡ childOf l.table l.parent l.letter) × (l.at + l.left < 131072)
+
+abbrev pub decreases-loop-left : goal.decreases-loop-left
+decreases-loop-left l = l.left

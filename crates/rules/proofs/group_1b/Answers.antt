@@ -1,0 +1,10 @@
+-- `rules::group_1b` meets its contract: the constant is the group's rows, by computation.
+use mathlib.Core.Path.{refl}
+use Rattle.paper.specs.Letters.{letters}
+use Rattle.paper.specs.Shipped.{rule, opening, group_1b}
+use Rattle.rules.specs.Rows.{row_of, rows_of}
+use Rattle.rules.proofs.group_1b.Goals as goal
+
+pub returns : goal.returns
+unfolding rows_of row_of letters rule opening group_1b
+returns c = refl

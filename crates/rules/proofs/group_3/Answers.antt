@@ -1,0 +1,10 @@
+-- `rules::group_3` meets its contract: the constant is the group's rows, by computation.
+use mathlib.Core.Path.{refl}
+use Rattle.paper.specs.Letters.{letters}
+use Rattle.paper.specs.Shipped.{rule, group_3}
+use Rattle.rules.specs.Rows.{row_of, rows_of}
+use Rattle.rules.proofs.group_3.Goals as goal
+
+pub returns : goal.returns
+unfolding rows_of row_of letters rule group_3
+returns c = refl

@@ -1,0 +1,10 @@
+-- `rules::group_4` meets its contract: the constant is the group's rows, by computation.
+use mathlib.Core.Path.{refl}
+use Rattle.paper.specs.Letters.{letters}
+use Rattle.paper.specs.Shipped.{rule, group_4}
+use Rattle.rules.specs.Rows.{row_of, rows_of}
+use Rattle.rules.proofs.group_4.Goals as goal
+
+pub returns : goal.returns
+unfolding rows_of row_of letters rule group_4
+returns c = refl
