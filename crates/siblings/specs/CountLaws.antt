@@ -1,6 +1,6 @@
 -- The table has four numbers for each node that the node count counts.
 use Rattle.std.specs.Prelude.{ℕ, suc, ◌+◌, ◌*◌, ◌≤◌, ◌≡◌, refl, true, false, cond, List, [], ◌∷◌, ◌++◌, map, length}
-use Rattle.std.proofs.Common.{ap, ◌∙◌, append_assoc, le_refl, arith, length-append, ne_eqb, eq-eqb}
+use Rattle.std.proofs.Common.{sym, ap, ◌∙◌, append_assoc, le_refl, arith, length-append, ne_eqb, eq-eqb}
 use Rattle.std.proofs.Math.Bool.{or-false, or_comm, or-true}
 use Rattle.paper.specs.Groups.{Rule, Group, same}
 use Rattle.paper.specs.Nodes.{tails, member, distinct, node_count}
@@ -66,7 +66,7 @@ last_length whole last nodes left seen more =
     known : member whole (left ++ seen) ≡ true → Alike ((left ++ whole ∷ []) ++ seen) (left ++ seen)
     known p tail =
         seen_behind whole left seen tail
-        ∙ by_test (same tail whole) (λ q. rw (same_equal tail whole q, p, or-true)) (λ q. rw q)
+        ∙ by_test (same tail whole) (λ q. rw q (sym (ap (λ (t : List ℕ). member t (left ++ seen)) (same_equal tail whole q) ∙ p))) (λ q. rw q)
 
 way_length : (group : ℕ) (ending : List ℕ) (nodes : List Node) (seen more : List (List ℕ)) → Agree group nodes seen
     → length (added nodes (way group ending)) + distinct (ascending ending ++ seen) more ≡ length nodes + distinct seen

@@ -28,7 +28,7 @@ returns-then-k-s c = let at = c.loop-i in
     let ran = c.step-s in
     let part = c.args.part.now in
     let passing = step_gives part _ at.s ran.result at.i c.loop-i-test.true at.invariant.0
-    ran.ensures.0 ran.ensures.1 in
+    ran.ensures.state_bound ran.ensures.by_index in
     let more = state_passed part _ ran.result (at.i + 1) passing in
     sym (lt-ltb c.args.k (state_of
     c.args.part.now) (omega
@@ -45,7 +45,7 @@ loop-i-preserved c = let at = c.loop-i in
     let ran = c.step-s in
     let part = c.args.part.now in
     let passing = step_gives part _ at.s ran.result at.i c.loop-i-test.true at.invariant.0
-    ran.ensures.0 ran.ensures.1 in
+    ran.ensures.state_bound ran.ensures.by_index in
     (passing, c.if-k-s.false)
 
 pub returns : goal.returns

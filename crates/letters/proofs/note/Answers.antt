@@ -87,7 +87,7 @@ loop-i-preserved c = let met = c in
     let by-class = next_by_class at.consonant at.vowel class.result at.state letter at.invariant.5 class.ensures in
     let same = beq class.result at.vowel in
     let next : met.if-now-vowel.state ≡ next_state at.consonant at.state letter =
-    elim met.if-now-vowel.branch [ then-now-vowel w ↦ w.1 ∙ (rw (not-true same w.if-now-vowel.true) at by-class) | else-now-vowel w ↦ w.1 ∙ (rw (not-false same w.if-now-vowel.false) at by-class) ] in
+    elim met.if-now-vowel.branch [ then-now-vowel w ↦ w.state-is ∙ (rw (not-true same w.if-now-vowel.true) at by-class) | else-now-vowel w ↦ w.state-is ∙ (rw (not-false same w.if-now-vowel.false) at by-class) ] in
     let odd-next = next_odd at.consonant at.vowel class.result at.state letter at.invariant.5 class.ensures _ next in
     let wrote = writing_more word a.states.now 0 false 0 at.invariant.1 at.states at.state at.consonant at.i
     met.if-now-vowel.state at.invariant.4 (omega arith) next in

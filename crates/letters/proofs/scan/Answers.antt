@@ -31,7 +31,7 @@ pub loop-i-preserved : goal.loop-i-preserved
 loop-i-preserved c = let at = c.loop-i in
     let ran = c.step-s in
     let passing = step_gives c.args.part.now _ at.s
-    ran.result at.i c.loop-i-test.true at.invariant ran.ensures.0 ran.ensures.1 in
+    ran.result at.i c.loop-i-test.true at.invariant ran.ensures.state_bound ran.ensures.by_index in
     passing
 
 pub returns : goal.returns

@@ -36,7 +36,7 @@ here : (c : In-Letters) (known_part : part_in
     → LettersHere
     (drop c.args.from
     c.args.rest.now)
-    c.in-Letters.count c.count-1.given.0.1.0
+    c.in-Letters.count c.in-Letters.taken
 here c known_part = part-found _ _ (known_part ∙ c.in-Letters.is)
 
 pub closed-requires : goal.closed-requires
@@ -67,10 +67,10 @@ unfolding after_arrow
 returns-in-Letters c = let count = c in
     let else = count in
     c.closed-in-Letters.ensures
-    ∙ sym (rw (single else ∙ else.if-starts.false, part (goal.at.returns-in-Letters c).After-read_part ∙ count.in-Letters.is) refl)
+    ∙ sym (rw (single (goal.at.returns-in-Letters c).After-starts ∙ else.if-starts.false, part (goal.at.returns-in-Letters c).After-read_part ∙ count.in-Letters.is) refl)
 
 pub returns-in-Nothing : goal.returns-in-Nothing
 unfolding after_arrow
 returns-in-Nothing c = let asked = c in
     let else = asked in
-    rw (single else ∙ else.if-starts.false, part (goal.at.returns-in-Nothing c).After-read_part ∙ c.in-Nothing.is) refl
+    rw (single (goal.at.returns-in-Nothing c).After-starts ∙ else.if-starts.false, part (goal.at.returns-in-Nothing c).After-read_part ∙ c.in-Nothing.is) refl

@@ -21,37 +21,37 @@ part c =
 here : (c : In-Letters) (known_part : part_in (drop c.args.start c.args.rest.now) ≡ c.read_part.result)
     → LettersHere
     (drop c.args.start c.args.rest.now)
-    c.in-Letters.count c.count-1.given.0.1.0
+    c.in-Letters.count c.in-Letters.taken
 here c known_part = part-found _ _ (known_part ∙ c.in-Letters.is)
 
 arrow : (c : After-starts)
     → starts_with (letters " -> ")
     (drop
     (c.args.start
-    + c.count-1.given.0.1.0)
+    + c.in-Letters.taken)
     c.args.rest.now)
     ≡ c.starts.result
 unfolding letters
 arrow c =
     let s = c.args in
-    let at = s.start + c.count-1.given.0.1.0 in
+    let at = s.start + c.in-Letters.taken in
     ap (starts_with (letters " -> ")) (sym (to_the_end s.rest.now at)) ∙ sym c.starts.ensures
 
 -- four bytes more stand there
 four : (c : Then-starts) (known_arrow : starts_with (letters " -> ")
     (drop
     (c.args.start
-    + c.count-1.given.0.1.0)
+    + c.in-Letters.taken)
     c.args.rest.now)
     ≡ c.starts.result)
     → c.args.start
-    + c.count-1.given.0.1.0
+    + c.in-Letters.taken
     + 4
     ≤ length c.args.rest.now
 unfolding letters
 four c known_arrow =
     let s = c.args in
-    let at = s.start + c.count-1.given.0.1.0 in
+    let at = s.start + c.in-Letters.taken in
     let there = starts_front (letters " -> ") (drop at s.rest.now) (known_arrow ∙ c.if-starts.true) in
     let few = length-drop at s.rest.now in
     let some = inside there in

@@ -24,12 +24,10 @@ module _ (sheet : List ℕ) (at : ℕ) {k b next : ℕ} (is : FramedAt sheet at 
 -- what the frame says
 frame-of : (c : In-Whole)
     → (let args = c.args in
-    let given = c.frame-1.given.0 in
-    FramedAt args.sheet.now args.at given.0 given.1.0 given.1.1.0)
+    FramedAt args.sheet.now args.at c.in-Whole.kind c.in-Whole.body c.in-Whole.next)
 frame-of c =
     let args = c.args in
-    let given = c.frame-1.given.0 in
-    framed args.sheet.now args.at (Whole given.0 given.1.0 given.1.1.0)
+    framed args.sheet.now args.at (Whole c.in-Whole.kind c.in-Whole.body c.in-Whole.next)
     (sym c.frame_at-frame.ensures ∙ c.in-Whole.is)
 
 pub slice_bounds-group_in-count : goal.slice_bounds-group_in-count

@@ -83,30 +83,26 @@ module _ (place : ℕ) (body : List ℕ) where
       unfolding rule_record faulty_rule ending_place replacement_place
       read n is k = rw is (simp (g, h, k))
 
--- the body, and what the test of the numbers says of it
-abbrev tested : After-above → List ℕ
-tested c = c.args.body.now
-
-numbers : (c : After-above) → c.above.result ≡ faulty_numbers (tested c)
+numbers : (c : After-above) → c.above.result ≡ faulty_numbers c.args.body.now
 numbers c =
     let long = c.if-body-lt4.false in
     c.above.ensures ∙ numbers_are _ _ c.wide-n.ensures.value long
 
 -- where the numbers are not faulty, S1 is within the body
-s1-fits : (c : Else-above) → 4 + c.wide-n.result ≤ length (tested c)
-s1-fits c = fits (tested c) _ (sym c.above.ensures ∙ c.if-above.false)
+s1-fits : (c : Else-above) → 4 + c.wide-n.result ≤ length c.args.body.now
+s1-fits c = fits c.args.body.now _ (sym c.above.ensures ∙ c.if-above.false)
 
-numbers-sound : (c : Else-above) (known_numbers : c.above.result ≡ faulty_numbers (tested c)) → faulty_numbers (tested c) ≡ false
+numbers-sound : (c : Else-above) (known_numbers : c.above.result ≡ faulty_numbers c.args.body.now) → faulty_numbers c.args.body.now ≡ false
 numbers-sound c known_numbers = sym known_numbers ∙ c.if-above.false
 
-letters-test : (c : After-faulty_letters) → c.faulty_letters.result ≡ faulty_letters (tested c)
+letters-test : (c : After-faulty_letters) → c.faulty_letters.result ≡ faulty_letters c.args.body.now
 letters-test c = c.faulty_letters.ensures ∙ letters_are _ _ c.wide-n.ensures.value
 
-letters-sound : (c : Else-faulty_letters) (known_letters-test : c.faulty_letters.result ≡ faulty_letters (tested c)) → faulty_letters (tested c) ≡ false
+letters-sound : (c : Else-faulty_letters) (known_letters-test : c.faulty_letters.result ≡ faulty_letters c.args.body.now) → faulty_letters c.args.body.now ≡ false
 letters-sound c known_letters-test = sym known_letters-test ∙ c.if-faulty_letters.false
 
 action-test : (c : After-faulty_action)
-    → c.faulty_action.result ≡ faulty_action (tested c)
+    → c.faulty_action.result ≡ faulty_action c.args.body.now
 action-test c = c.faulty_action.ensures ∙ action_is _ _ c.wide-n.ensures.value
 
 -- ## The needs
@@ -143,5 +139,5 @@ overflow_add-middle c = let within = s1-fits (goal.at.overflow_add-middle c).Els
 pub returns : goal.returns
 returns c = let past = c in
     let tests = past in
-    read _ _ (numbers-sound tests) (letters-sound (goal.at.returns c).Else-faulty_letters (letters-test (goal.at.returns c).After-faulty_letters)) _ tests.wide-n.ensures.value
+    read _ _ (numbers-sound (goal.at.returns c).Else-above (numbers (goal.at.returns c).After-above)) (letters-sound (goal.at.returns c).Else-faulty_letters (letters-test (goal.at.returns c).After-faulty_letters)) _ tests.wide-n.ensures.value
     (sym (action-test (goal.at.returns c).After-faulty_action) ∙ c.if-faulty_action.false)

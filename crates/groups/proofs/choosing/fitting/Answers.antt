@@ -1,0 +1,52 @@
+use Prim.Native.Nat.{ℕ, ◌+◌, ◌-◌, ◌<◌}
+use native.Mathlib.Omega.{arith}
+use native.Mathlib.Decide.{dec_lt}
+use mathlib.Core.Path.{◌≡◌, sym, ap, ◌∙◌}
+use mathlib.Core.Bool.{false}
+use mathlib.Core.List.{List}
+use Rattle.paper.specs.Groups.{Rule, ends_with}
+use Rattle.paper.specs.FirstFits.{NoneFits}
+use Rattle.rules.specs.Rows.{rule_at}
+use Rattle.groups.proofs.choosing.fitting.Goals as goal
+
+none_next : (word : List ℕ) (at : ℕ → Rule) (from rule : ℕ) → NoneFits at from rule word → ends_with word (at rule).ending ≡ false
+    → NoneFits at from (rule + 1) word
+none_next word at from rule misses here k low high = go (dec_lt k rule)
+  where
+    go : Dec (k < rule) → ends_with word (at k).ending ≡ false
+    go (yes earlier) = misses k low earlier
+    go (no last) = ap (λ (j : ℕ). ends_with word (at j).ending) (omega arith) ∙ here
+
+pub loop-rule-init : goal.loop-rule-init
+loop-rule-init c = λ k low high. absurd (omega arith)
+
+pub fits-requires : goal.fits-requires
+fits-requires c = omega (arith, c.requires)
+
+pub returns-then-fits : goal.returns-then-fits
+returns-then-fits c = let at = c.loop-rule in
+    record {
+      within = omega arith;
+      none_before = at.invariant;
+      ends = λ inside. sym c.fits.ensures ∙ c.if-fits.true;
+    }
+
+pub overflow_add-rule : goal.overflow_add-rule
+overflow_add-rule c = omega arith
+
+pub loop-rule-smaller : goal.loop-rule-smaller
+loop-rule-smaller c = omega arith
+
+pub loop-rule-preserved : goal.loop-rule-preserved
+loop-rule-preserved c = let s = c in
+    let at = c.loop-rule in
+    none_next s.args.word.now (rule_at s.args.rules.now) s.args.from at.rule at.invariant
+    (sym c.fits.ensures ∙ c.if-fits.false)
+
+pub returns : goal.returns
+returns c = let inv = c.loop-rule.invariant in
+    record {
+      within = omega arith;
+      none_before = λ k low high. inv k low (omega arith);
+      ends = λ inside. absurd (omega arith);
+    }
