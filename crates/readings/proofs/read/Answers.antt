@@ -16,8 +16,8 @@ use Rattle.paper.specs.Words.{taken, turned_down, judged, judged_by, first_other
 use Rattle.paper.specs.WordsLaws.{judged_by_lem}
 use Rattle.paper.specs.Noted.{states_of, states_after, Noted, length_after, noted_more}
 use Rattle.letters.specs.Notes.{noted}
-use Rattle.readings.proofs.read.Statement.{statement}
-use Rattle.readings.proofs.read.Tie as tie
+use Rattle.readings.proofs.read.Goals as goal
+use Rattle.readings.proofs.read.Goals.{After-states-3-1, Start}
 
 -- the test before the reading is that of the word
 refuses : (size other : ℕ) → (eqb size 0 || (ltb 64 size || ltb other size)) ≡ true → taken ≡ judged_by size other → ⊥
@@ -54,50 +54,40 @@ notes word states after first room short all is =
     (noted_more [] word states 0 first refl (omega arith))
 
 -- once the test is passed
-module _ (c : tie.After-states3) where
-  abbrev s : tie.Start
-  s = c.before.before.before.before.before.before.before.before
+module _ (c : After-states-3-1) where
+  abbrev s : Start
+  s = c
 
   abbrev word : List ℕ
   word = s.args.word.now
 
   passed : (taken ≡ judged word) × ((length word ≤ 64) × (length word ≤ first_other word))
   passed =
-      let found = c.before.before.before.before.note.ensures.0 in
-      let says = takes (length word) _ c.before.before.if1.false in
+      let found = c.note-other.ensures.value in
+      let says = takes (length word) _ c.if-word-other.false in
       (says.0 ∙ ap (judged_by (length word)) found ∙ judged_by_lem word, (says.1.0, omega (arith, says.1.1, found)))
 
-returns : tie.Need-returns
-returns c =
-    let word = c.before.before.before.before.before.before.args.word.now in
-    let found = c.before.before.note.ensures.0 in (
+pub returns-then-word-other : goal.returns-then-word-other
+returns-then-word-other c = let word = c.args.word.now in
+    let found = c.note-other.ensures.value in let whole = (
       found,
       (
-        λ is-taken. absurd (refuses (length word) _ c.if1.true (is-taken ∙ sym (ap (judged_by (length word)) found ∙ judged_by_lem word))),
+        λ is-taken. absurd (refuses (length word) _ c.if-word-other.true (is-taken ∙ sym (ap (judged_by (length word)) found ∙ judged_by_lem word))),
         λ other. refl,
       ),
-    )
+    ) in record { other_value = whole.0; read_stands = whole.1; word_unchanged = whole.2 }
 
-read-by-requires : tie.Need-read-by-requires
-read-by-requires c κs =
-    let made = c.before.before.before.before.note in
+pub read_by-len-requires : goal.read_by-len-requires
+read_by-len-requires c = let made = c.note-other in
     let at_most = (passed c).1 in
     record {
       within = omega arith;
       short = at_most.0;
-      room = made.auto.1.0;
-      noted = notes (word c) _ _ refl (omega (arith, at_most.0)) at_most.0 at_most.1 made.ensures.1;
+      room = made.auto.states;
+      noted = notes (word c) _ _ refl (omega (arith, at_most.0)) at_most.0 at_most.1 made.ensures.notes_after;
     }
 
-returns-2 : tie.Need-returns-2
-returns-2 c =
-    let noted = c.before.before.before.before.before.before.before.before.note in
-    let ran = c.before.before.before.read_by in
-    let was-taken = (passed c.before.before.before.before).0 in
-    (noted.ensures.0, (λ is-taken. ran.ensures, λ other. absurd (other was-taken)))
-
-pub read_spec : {M : Type 1} → statement M
-read_spec =
-    tie.close
-    (tie.spec (λ c. search rules) (λ c κs. search rules) (λ c. search rules) returns (λ c. search rules) read-by-requires
-    (λ c. search rules) returns-2)
+pub returns : goal.returns
+returns c = let noted = c.note-other in
+    let ran = c.read_by-len in
+    let was-taken = (passed c).0 in let whole = (noted.ensures.value, (λ is-taken. ran.ensures, λ other. absurd (other was-taken))) in record { other_value = whole.0; read_stands = whole.1; word_unchanged = whole.2 }
