@@ -1,0 +1,9 @@
+-- `imports::faulty_body` meets its contract.
+use borrow.Author.Rules.{rules}
+use mathlib.Core.Path.{sym}
+use Rattle.imports.specs.RuleRecords.{body_fault}
+use Rattle.imports.proofs.faulty_body.Goals as goal
+
+pub returns : goal.returns
+returns c = let s = c in
+    rw c.faulty_action-unfit.ensures (sym (body_fault s.args.rest.now s.args.rule s.requires))

@@ -1,0 +1,17 @@
+-- `judging::endings::note_all` meets its contract. The loop's invariant: the rules before this place are noted.
+use Prim.Native.Nat.{◌-◌, ◌≤◌}
+use mathlib.Core.Path.{◌≡◌, refl, sym, ◌∙◌}
+use native.Mathlib.Omega.{arith}
+use lib.ListN.{length}
+use borrow.Author.Rules.{rules}
+use borrow.Author.Tests.{not-true, not-false}
+use Rattle.sheets.specs.SheetPlaces.{GroupNext, RuleNext, never-over, never-alone, group_next, rule_next}
+use Rattle.judging.specs.FollowLaws.{at_node, rooted_in}
+use Rattle.judging.specs.NoteLaws.{Noting, noting_start, noting_group, noting_end, root_here, noting_missing, noting_rule}
+use Rattle.judging.proofs.endings.note_all.Given as goal
+
+abbrev pub invariant-loop-at : goal.invariant-loop-at
+invariant-loop-at l = (l.at ≤ length l.sheet) × (l.groups ≤ 16) × (l.rules ≤ 128) × (length l.notes ≡ length l.initial.notes) × Noting l.sheet l.table l.at l.root l.groups l.rules l.notes
+
+abbrev pub decreases-loop-at : goal.decreases-loop-at
+decreases-loop-at l = length l.sheet - l.at
