@@ -9,22 +9,14 @@ use Rattle.sheets.specs.SheetBytes.{sheet_of}
 use Rattle.levels.specs.Layout.{table_of}
 use Rattle.tables.specs.RunOutcomes.{run_outcome}
 use Rattle.tables.specs.Demand3.{delivered_reads}
-use Rattle.shipped.proofs.run.Statement.{statement}
-use Rattle.shipped.proofs.run.Tie as tie
+use Rattle.shipped.proofs.run.Goals as goal
 
 given : (word : List ℕ) {sheet table after : List ℕ} {number value : ℕ} → sheet ≡ sheet_of shipped → table ≡ table_of shipped
     → Gives (run_outcome sheet table word) number value after
     → Gives (word_outcome (read_word shipped) word) number value after
 given word is also gives = rw (is, also, delivered_reads) at gives
 
-returns : tie.Need-returns
-returns c =
-    let made = c.before.before.before.before.before.before.before in
-    given made.before.before.args.word.now made.sheet.ensures
-    c.before.before.before.before.before.before.table.ensures c.before.before.run.ensures
-
-pub run_spec : {M : Type 1} → statement M
-run_spec =
-    tie.close
-    (tie.spec (λ c κs. search rules) (λ c κs. search rules) (λ c. search rules) (λ c. search rules) (λ c κs. search rules)
-    (λ c. search rules) returns)
+pub returns : goal.returns
+returns c = let made = c in
+    given made.args.word.now made.sheet-rules.ensures
+    c.table-nodes.ensures c.run.ensures
