@@ -1,5 +1,4 @@
 -- `conditions::holds_by` meets its contract; a state in a list of bytes is one of those that `least` speaks of.
-use borrow.Author.Rules.{rules}
 use native.Mathlib.Omega.{arith}
 use mathlib.Core.Path.{◌∙◌}
 use lib.ListN.{length, get_or}

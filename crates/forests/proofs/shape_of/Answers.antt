@@ -1,21 +1,6 @@
-use Prim.Native.Nat.{◌+◌, ◌*◌, ◌-◌}
-use mathlib.Core.Logic.{⊎_elim}
+use Prim.Native.Nat.{◌+◌, ◌*◌}
 use native.Mathlib.Omega.{arith}
-use borrow.Author.Rules.{rules}
-use borrow.Author.Tests.{not-true, not-false}
-use Rattle.forests.specs.ShapeSteps.{
-  SoFar,
-  many_roots,
-  lettered_root,
-  at_first,
-  all_seen,
-  leaf-astray,
-  too_far,
-  astray,
-  falling,
-  leaf,
-  parent,
-}
+use Rattle.forests.specs.ShapeSteps.{many_roots, lettered_root, at_first, all_seen, leaf-astray, too_far, astray, falling, leaf, parent}
 use Rattle.forests.proofs.shape_of.Goals as goal
 use Rattle.forests.proofs.shape_of.Goals.{then-count-eq0+else-first-ne0, else-count-eq0+else-most-end+else-first-next+else-not-rising}
 

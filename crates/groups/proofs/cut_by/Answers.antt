@@ -1,5 +1,4 @@
 -- `groups::cut_by` meets its contract; a table that holds the group has its rows.
-use borrow.Author.Rules.{rules}
 use native.Mathlib.Omega.{arith}
 use Rattle.groups.proofs.Cuts.{left_cuts}
 use Rattle.groups.proofs.cut_by.Goals as goal

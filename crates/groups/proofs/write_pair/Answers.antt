@@ -1,6 +1,5 @@
 -- `groups::write_pair` meets its contract: what the rule leaves is what the group does, and the tests hold of every word that stands.
 use Prim.Native.Nat.{◌≤◌}
-use borrow.Author.Rules.{rules}
 use borrow.Author.Tests.{leb-true, le-leb}
 use native.Mathlib.Omega.{arith}
 use mathlib.Core.Path.{sym, ◌∙◌}

@@ -1,5 +1,4 @@
 -- `imports::faulty_body` meets its contract.
-use borrow.Author.Rules.{rules}
 use mathlib.Core.Path.{sym}
 use Rattle.imports.specs.RuleRecords.{body_fault}
 use Rattle.imports.proofs.faulty_body.Goals as goal

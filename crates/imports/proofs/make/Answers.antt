@@ -1,5 +1,4 @@
 -- `imports::make` meets its contract: the first pass leaves the sheet as it was, since no byte of it was lent.
-use borrow.Author.Rules.{rules}
 use Rattle.imports.specs.Passing.{fault_given, short_given, sheet_given, none_lent}
 use Rattle.imports.proofs.make.Goals as goal
 

@@ -1,5 +1,4 @@
 -- `imports::put_end` meets its contract.
-use borrow.Author.Rules.{rules}
 use mathlib.Core.Path.{refl}
 use Rattle.records.specs.Framing.{two, record_of}
 use Rattle.places.specs.Written.{appends_put}

@@ -1,5 +1,4 @@
 -- `imports::put_group` meets its contract.
-use borrow.Author.Rules.{rules}
 use mathlib.Core.Path.{refl}
 use Rattle.places.specs.Written.{appends_put}
 use Rattle.imports.specs.RuleRecords.{group_bytes}

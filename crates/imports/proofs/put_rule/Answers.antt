@@ -1,5 +1,4 @@
 -- `imports::put_rule` meets its contract: the three parts of the record are put one behind the other.
-use borrow.Author.Rules.{rules}
 use native.Mathlib.Omega.{arith}
 use Rattle.imports.specs.RuleRecords.{short_parts, rule_size, rule_appends}
 use Rattle.imports.proofs.put_rule.Goals as goal

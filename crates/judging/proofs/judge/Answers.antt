@@ -4,7 +4,6 @@ use mathlib.Core.Path.{sym}
 use native.Mathlib.Omega.{arith}
 use lib.ListN.{length}
 use lib.Seq.{length-take-le}
-use borrow.Author.Rules.{rules}
 use Rattle.sheets.specs.Accepted.{groups_of}
 use Rattle.sheets.specs.Reads.{ReadAs}
 use Rattle.sheets.specs.declared.Sheet.TheVariants.{Accepted}

@@ -1,9 +1,6 @@
-use Prim.Native.Nat.{◌-◌, ◌≤◌, ◌<◌}
-use borrow.Author.Rules.{rules}
 use native.Mathlib.Omega.{arith}
 use mathlib.Core.Path.{◌≡◌, refl, ◌∙◌}
 use mathlib.Core.Bool.{false, beq}
-use mathlib.Core.Logic.{⊎_elim}
 use borrow.Author.Tests.{leb-false, ltb-false, not-true, not-false}
 use lib.Dec.{leb, ltb}
 use lib.ListN.{length, get_or}
@@ -11,10 +8,9 @@ use Rattle.paper.specs.Letters.{letters}
 use Rattle.paper.specs.Noted.{next_state}
 use Rattle.paper.specs.TestLaws.{neither_left, neither_right}
 use Rattle.letters.specs.Scan.{class_table}
-use Rattle.letters.proofs.Classes.{odd}
-use Rattle.pieces.specs.FirstOther.{Sought, below-found, above_found, sought_more, none_found}
+use Rattle.pieces.specs.FirstOther.{below-found, above_found, sought_more, none_found}
 use Rattle.letters.proofs.Steps.{next_by_class, next_odd}
-use Rattle.letters.proofs.Writes.{Writing, writing_none, writing_more, noted_is, noted_not}
+use Rattle.letters.proofs.Writes.{writing_none, writing_more, noted_is, noted_not}
 use Rattle.letters.proofs.note.Goals as goal
 use Rattle.letters.proofs.note.Goals.{else-now-vowel, then-now-vowel}
 

@@ -1,5 +1,4 @@
 -- `letters::vowel_after` meets its contract: outside a to z there is no vowel, and within it the table says.
-use borrow.Author.Rules.{rules}
 use native.Mathlib.Omega.{arith}
 use mathlib.Core.Path.{sym, ap, ◌∙◌}
 use mathlib.Core.Bool.{◌&&◌, ◌||◌}

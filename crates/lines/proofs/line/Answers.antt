@@ -1,5 +1,4 @@
 -- `lines::line` meets its contract.
-use borrow.Author.Rules.{rules}
 use mathlib.Core.Path.{refl, sym, ◌∙◌}
 use Rattle.lines.specs.Reading.{found_in}
 use Rattle.lines.specs.PartLaws.{inside, head-found}

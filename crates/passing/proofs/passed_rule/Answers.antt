@@ -9,7 +9,6 @@ use Rattle.paper.specs.TestLaws.{or_right}
 use Rattle.records.specs.declared.Record.TheVariants.{Rule, Faulty}
 use Rattle.records.specs.Records.{condition, action_number, opens_number, ending_length, ending_place, replacement_place}
 use Rattle.passing.specs.Passed.{passed_rule}
-use borrow.Author.Rules.{rules}
 use Rattle.passing.proofs.passed_rule.Goals as goal
 
 module _ (place : ℕ) (body : List ℕ) (n : ℕ) (is : n ≡ ending_length body) where

@@ -3,7 +3,7 @@ use native.Mathlib.Omega.{arith}
 use mathlib.Core.Path.{◌≡◌, refl, sym, ap, ap₂, ◌∙◌}
 use mathlib.Core.List.{List, ◌++◌, append-nil}
 use lib.ListN.{length, take, set, get_or, length-set, length-replicate, get_or-replicate}
-use lib.Seq.{paste, paste-zero, paste-suc, take_all, drop-length}
+use lib.Seq.{paste-zero, paste-suc, take_all, drop-length}
 use Rattle.paper.specs.Words.{spaces}
 use Rattle.places.proofs.fill.Goals as goal
 use Rattle.places.proofs.fill.Invariants.{spaced}

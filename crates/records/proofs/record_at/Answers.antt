@@ -10,7 +10,6 @@ use Rattle.records.specs.declared.Record.TheVariants.{End, Faulty}
 use Rattle.records.specs.FramingLaws.{FramedAt, framed}
 use Rattle.records.specs.RecordAnswers.{group_record, rule_record, end_record, record_at}
 use Rattle.records.specs.FrameCases.{frame_cut, frame_group, frame_rule, frame_end, frame_other, end_judged}
-use borrow.Author.Rules.{rules}
 use Rattle.records.proofs.record_at.Goals as goal
 use Rattle.records.proofs.record_at.Goals.{In-Whole}
 

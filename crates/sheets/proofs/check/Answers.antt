@@ -1,5 +1,4 @@
 -- `sheets::check` meets its contract: what is read, and the nodes of an accepted sheet.
-use borrow.Author.Rules.{rules}
 use Rattle.sheets.specs.Reads.{ReadAs}
 use Rattle.sheets.specs.declared.Sheet.TheVariants.{Accepted}
 use Rattle.sheets.specs.ReadLaws.{check_refused, check_accepted}

@@ -1,10 +1,7 @@
-use Prim.Native.Nat.{◌-◌, ◌≤◌}
 use mathlib.Core.Path.{sym, ◌∙◌}
 use native.Mathlib.Omega.{arith}
-use borrow.Author.Rules.{rules}
-use lib.ListN.{length}
 use Rattle.sheets.specs.SheetPlaces.{GroupNext, RuleNext, never-over, never-alone, group_next, rule_next}
-use Rattle.sheets.specs.NodeLaws.{Counting, counting-start, counting_end, counting_group, shared_short, counting_rule}
+use Rattle.sheets.specs.NodeLaws.{counting-start, counting_end, counting_group, shared_short, counting_rule}
 use Rattle.sheets.proofs.count_nodes.Goals as goal
 use Rattle.sheets.proofs.count_nodes.Goals.{In-Group, In-Rule}
 

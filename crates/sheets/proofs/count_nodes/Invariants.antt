@@ -1,11 +1,7 @@
 -- `sheets::count_nodes` meets its contract. The loop's invariant: what is counted and what is left make the node count.
 use Prim.Native.Nat.{◌-◌, ◌≤◌}
-use mathlib.Core.Path.{sym, ◌∙◌}
-use native.Mathlib.Omega.{arith}
-use borrow.Author.Rules.{rules}
 use lib.ListN.{length}
-use Rattle.sheets.specs.SheetPlaces.{GroupNext, RuleNext, never-over, never-alone, group_next, rule_next}
-use Rattle.sheets.specs.NodeLaws.{Counting, counting-start, counting_end, counting_group, shared_short, counting_rule}
+use Rattle.sheets.specs.NodeLaws.{Counting}
 use Rattle.sheets.proofs.count_nodes.Given as goal
 
 abbrev pub invariant-loop-at : goal.invariant-loop-at

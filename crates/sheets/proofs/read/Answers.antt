@@ -1,18 +1,17 @@
-use Prim.Native.Nat.{ℕ, ◌-◌, ◌≤◌}
+use Prim.Native.Nat.{ℕ}
 use mathlib.Core.Path.{◌≡◌, sym, ◌∙◌}
 use mathlib.Core.Bool.{◌&&◌, ◌||◌}
 use mathlib.Core.List.{List}
 use native.Mathlib.Omega.{arith}
-use borrow.Author.Rules.{rules}
 use lib.Dec.{eqb, leb}
-use lib.ListN.{length, drop, length-drop}
+use lib.ListN.{drop, length-drop}
 use Rattle.records.specs.Framing.{body}
 use Rattle.records.specs.Records.{gate_number}
 use Rattle.records.specs.RecordPlaces.{GroupAt, RuleAt, record_here}
 use Rattle.records.specs.declared.Record.TheVariants.{Group, Rule, End, Faulty}
 use Rattle.sheets.specs.Sheets.{misplaced_group, misplaced_rule}
 use Rattle.sheets.specs.SheetSteps.{fault_alone, faulty-empty, few_groups, few_rules}
-use Rattle.sheets.specs.ReadLaws.{Reading, reading-start, faulty_record, group_refused, rule_refused, last_record}
+use Rattle.sheets.specs.ReadLaws.{reading-start, faulty_record, group_refused, rule_refused, last_record}
 use Rattle.sheets.specs.ReadLaws.{read_group, read_rule}
 use Rattle.sheets.proofs.read.Goals as goal
 use Rattle.sheets.proofs.read.Goals.{After-misplaced_group, After-misplaced_rule}

@@ -2,7 +2,6 @@
 use mathlib.Core.Path.{◌≡◌}
 use mathlib.Core.List.{List}
 use Prim.Native.Nat.{ℕ}
-use borrow.Author.Rules.{rules}
 use Rattle.paper.specs.Shipped.{shipped}
 use Rattle.paper.specs.Words.{read_word, word_outcome, Gives}
 use Rattle.sheets.specs.SheetBytes.{sheet_of}

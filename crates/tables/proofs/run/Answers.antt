@@ -2,7 +2,6 @@
 use mathlib.Core.Path.{◌≡◌, sym, ◌∙◌}
 use native.Mathlib.Omega.{arith}
 use lib.Seq.{length-take-le}
-use borrow.Author.Rules.{rules}
 use Rattle.judging.specs.Judgements.{judgement}
 use Rattle.judging.specs.declared.Judged.TheVariants.{Right}
 use Rattle.tables.specs.RunLaws.{run_refused, run_other, run_accepted, run_inside, run_right}

@@ -3,7 +3,6 @@ use Prim.Native.Nat.{ℕ, ◌*◌}
 use mathlib.Core.Path.{◌≡◌, sym, ap, ◌∙◌}
 use native.Mathlib.Omega.{arith}
 use lib.Seq.{length-take-le}
-use borrow.Author.Rules.{rules}
 use Rattle.answers.specs.Answers.{counting, tells}
 use Rattle.sheets.specs.Accepted.{groups_of}
 use Rattle.sheets.specs.Checks.{checked}

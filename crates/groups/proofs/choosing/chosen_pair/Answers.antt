@@ -1,6 +1,5 @@
 -- `groups::choosing::chosen_pair` meets its contract: a rule before the pair ends the word, or the first of the pair that holds is obeyed.
 use Prim.Native.Nat.{◌+◌, ◌-◌}
-use borrow.Author.Rules.{rules}
 use borrow.Author.Tests.{lt-ltb, le-ltb}
 use native.Mathlib.Omega.{arith}
 use mathlib.Core.Path.{◌≡◌, sym, ap, ◌∙◌}

@@ -1,5 +1,4 @@
 -- `groups::choosing::fits` meets its contract.
-use borrow.Author.Rules.{rules}
 use mathlib.Core.Path.{ap, ◌∙◌}
 use Rattle.paper.specs.Groups.{ends_with}
 use Rattle.groups.proofs.Endings.{ending_read}

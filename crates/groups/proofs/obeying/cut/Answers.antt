@@ -1,5 +1,4 @@
 -- `groups::obeying::cut` meets its contract.
-use borrow.Author.Rules.{rules}
 use borrow.Author.Tests.{eq-eqb, ne_eqb}
 use native.Mathlib.Omega.{arith}
 use Rattle.groups.specs.Reads.{cut_at}

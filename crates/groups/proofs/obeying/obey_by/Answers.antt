@@ -1,5 +1,4 @@
 -- `groups::obeying::obey_by` meets its contract: what was put follows the part, and the scan of its letters goes on from the part's state.
-use borrow.Author.Rules.{rules}
 use borrow.Author.Tests.{le-ltb, eq-eqb, ne_eqb}
 use native.Mathlib.Omega.{arith}
 use mathlib.Core.Path.{sym, ap, ◌∙◌}

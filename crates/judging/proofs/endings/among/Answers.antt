@@ -1,7 +1,6 @@
-use Prim.Native.Nat.{◌+◌, ◌*◌, ◌-◌, ◌≤◌}
+use Prim.Native.Nat.{◌+◌, ◌*◌, ◌-◌}
 use mathlib.Core.Path.{◌≡◌, refl, sym, ◌∙◌}
 use native.Mathlib.Omega.{arith}
-use Rattle.paths.specs.Children.{sought}
 use Rattle.paths.specs.ChildLaws.{sought_here, sought-past, sought_next, sought-over}
 use Rattle.judging.proofs.endings.among.Goals as goal
 

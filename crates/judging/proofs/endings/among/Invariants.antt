@@ -1,9 +1,7 @@
 -- `judging::endings::among` meets its contract. The loop's invariant: what is found from here on is what is found from the first on.
-use Prim.Native.Nat.{◌+◌, ◌*◌, ◌-◌, ◌≤◌}
-use mathlib.Core.Path.{◌≡◌, refl, sym, ◌∙◌}
-use native.Mathlib.Omega.{arith}
+use Prim.Native.Nat.{◌-◌, ◌≤◌}
+use mathlib.Core.Path.{◌≡◌}
 use Rattle.paths.specs.Children.{sought}
-use Rattle.paths.specs.ChildLaws.{sought_here, sought-past, sought_next, sought-over}
 use Rattle.judging.proofs.endings.among.Given as goal
 
 abbrev pub invariant-loop-at : goal.invariant-loop-at

@@ -1,11 +1,7 @@
-use Prim.Native.Nat.{◌+◌, ◌*◌, ◌≤◌, ◌-◌}
-use mathlib.Core.Path.{◌≡◌, refl}
-use mathlib.Core.Option.{some}
+use Prim.Native.Nat.{◌+◌, ◌*◌, ◌-◌}
+use mathlib.Core.Path.{refl}
 use native.Mathlib.Omega.{arith}
-use borrow.Author.Rules.{rules}
-use lib.ListN.{length, drop}
 use Rattle.paths.specs.Children.{nodes_in}
-use Rattle.walks.specs.Walk.{reached}
 use Rattle.walks.specs.WalkSteps.{LetterStep, reached_root, reached_on, reached_end}
 use Rattle.judging.specs.FollowLaws.{At, at_node, child_among, leads-nowhere, leads_here}
 use Rattle.judging.proofs.endings.follow.Goals as goal

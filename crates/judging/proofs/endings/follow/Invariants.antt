@@ -1,14 +1,10 @@
 -- `judging::endings::follow` meets its contract. The loop's invariant: the letters passed lead to this node.
-use Prim.Native.Nat.{◌+◌, ◌*◌, ◌≤◌, ◌-◌}
-use mathlib.Core.Path.{◌≡◌, refl}
+use Prim.Native.Nat.{◌≤◌}
+use mathlib.Core.Path.{◌≡◌}
 use mathlib.Core.Option.{some}
-use native.Mathlib.Omega.{arith}
-use borrow.Author.Rules.{rules}
 use lib.ListN.{length, drop}
 use Rattle.paths.specs.Children.{nodes_in}
 use Rattle.walks.specs.Walk.{reached}
-use Rattle.walks.specs.WalkSteps.{LetterStep, reached_root, reached_on, reached_end}
-use Rattle.judging.specs.FollowLaws.{At, at_node, child_among, leads-nowhere, leads_here}
 use Rattle.judging.proofs.endings.follow.Given as goal
 
 abbrev pub invariant-loop-left : goal.invariant-loop-left

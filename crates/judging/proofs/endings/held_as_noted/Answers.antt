@@ -1,8 +1,6 @@
-use Prim.Native.Nat.{◌+◌, ◌*◌, ◌≤◌, ◌<◌, ◌-◌}
+use Prim.Native.Nat.{◌+◌, ◌*◌, ◌<◌}
 use mathlib.Core.Path.{◌≡◌, sym, ◌∙◌}
 use native.Mathlib.Omega.{arith}
-use borrow.Author.Rules.{rules}
-use Rattle.judging.specs.Notes.{Held}
 use Rattle.judging.specs.HeldLaws.{bare, not_bare, held_start, held_next, other_rule, no_rule_lem}
 use Rattle.judging.proofs.endings.held_as_noted.Goals as goal
 use Rattle.judging.proofs.endings.held_as_noted.Goals.{Else-rule-table}

@@ -1,10 +1,6 @@
 -- `judging::endings::held_as_noted` meets its contract. The loop's invariant: so it is of the nodes before this one.
-use Prim.Native.Nat.{◌+◌, ◌*◌, ◌≤◌, ◌<◌, ◌-◌}
-use mathlib.Core.Path.{◌≡◌, sym, ◌∙◌}
-use native.Mathlib.Omega.{arith}
-use borrow.Author.Rules.{rules}
+use Prim.Native.Nat.{◌≤◌, ◌-◌}
 use Rattle.judging.specs.Notes.{Held}
-use Rattle.judging.specs.HeldLaws.{bare, not_bare, held_start, held_next, other_rule, no_rule_lem}
 use Rattle.judging.proofs.endings.held_as_noted.Given as goal
 
 abbrev pub invariant-loop-i : goal.invariant-loop-i

@@ -1,6 +1,5 @@
 -- `judging::endings::led` meets its contract: all rules are noted, and the nodes hold what is noted.
 use native.Mathlib.Omega.{arith}
-use borrow.Author.Rules.{rules}
 use borrow.Author.Tests.{not-true, not-false}
 use Rattle.judging.specs.HeldLaws.{led_blank, led_missed, led_told}
 use Rattle.judging.proofs.endings.led.Goals as goal

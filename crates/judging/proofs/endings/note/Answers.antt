@@ -3,7 +3,6 @@ use Prim.Native.Nat.{◌-◌, ◌<◌}
 use lib.ListN.{length}
 use mathlib.Core.Path.{◌≡◌, sym, ◌∙◌}
 use mathlib.Core.Option.{some}
-use borrow.Author.Rules.{rules}
 use Rattle.paths.specs.Children.{nodes_in}
 use Rattle.walks.specs.Walk.{reached}
 use Rattle.judging.specs.FollowLaws.{at_node, none_there, node_there, wider}

@@ -1,12 +1,9 @@
-use Prim.Native.Nat.{◌-◌, ◌≤◌}
-use mathlib.Core.Path.{◌≡◌, refl, sym, ◌∙◌}
+use mathlib.Core.Path.{refl, sym, ◌∙◌}
 use native.Mathlib.Omega.{arith}
-use lib.ListN.{length}
-use borrow.Author.Rules.{rules}
 use borrow.Author.Tests.{not-true, not-false}
 use Rattle.sheets.specs.SheetPlaces.{GroupNext, RuleNext, never-over, never-alone, group_next, rule_next}
 use Rattle.judging.specs.FollowLaws.{at_node, rooted_in}
-use Rattle.judging.specs.NoteLaws.{Noting, noting_start, noting_group, noting_end, root_here, noting_missing, noting_rule}
+use Rattle.judging.specs.NoteLaws.{noting_start, noting_group, noting_end, root_here, noting_missing, noting_rule}
 use Rattle.judging.proofs.endings.note_all.Goals as goal
 use Rattle.judging.proofs.endings.note_all.Goals.{In-Group, In-Rule}
 

@@ -1,13 +1,8 @@
 -- `judging::endings::note_all` meets its contract. The loop's invariant: the rules before this place are noted.
 use Prim.Native.Nat.{◌-◌, ◌≤◌}
-use mathlib.Core.Path.{◌≡◌, refl, sym, ◌∙◌}
-use native.Mathlib.Omega.{arith}
+use mathlib.Core.Path.{◌≡◌}
 use lib.ListN.{length}
-use borrow.Author.Rules.{rules}
-use borrow.Author.Tests.{not-true, not-false}
-use Rattle.sheets.specs.SheetPlaces.{GroupNext, RuleNext, never-over, never-alone, group_next, rule_next}
-use Rattle.judging.specs.FollowLaws.{at_node, rooted_in}
-use Rattle.judging.specs.NoteLaws.{Noting, noting_start, noting_group, noting_end, root_here, noting_missing, noting_rule}
+use Rattle.judging.specs.NoteLaws.{Noting}
 use Rattle.judging.proofs.endings.note_all.Given as goal
 
 abbrev pub invariant-loop-at : goal.invariant-loop-at

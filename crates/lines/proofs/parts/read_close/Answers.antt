@@ -1,5 +1,4 @@
 -- `lines::parts::read_close` meets its contract.
-use borrow.Author.Rules.{rules}
 use mathlib.Core.Path.{sym, ◌∙◌}
 use Rattle.paper.specs.Letters.{letters}
 use Rattle.lines.specs.Reading.{close_in}

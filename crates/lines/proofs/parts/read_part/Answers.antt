@@ -1,5 +1,4 @@
 -- `lines::parts::read_part` meets its contract.
-use borrow.Author.Rules.{rules}
 use borrow.Author.Tests.{lt-ltb, le-ltb}
 use mathlib.Core.Path.{sym, ◌∙◌}
 use Rattle.paper.specs.Letters.{letters}

@@ -1,5 +1,4 @@
 -- `lines::parts::taken_spelled` meets its contract: each arm has the spelling of its number.
-use borrow.Author.Rules.{rules}
 use Prim.Native.Nat.{ℕ, ◌≤◌, ◌<◌}
 use mathlib.Core.Path.{◌≡◌}
 use native.Mathlib.Omega.{arith}

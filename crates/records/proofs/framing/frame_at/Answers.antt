@@ -9,7 +9,6 @@ use lib.ListN.{length, get_or, drop, length-drop}
 use lib.Seq.{get_or-drop}
 use Rattle.records.specs.declared.framing.Frame.TheVariants.{Whole, Cut}
 use Rattle.records.specs.Framing.{number, body_length, kind, record_length, cut, body_place, next_place, frame_at}
-use borrow.Author.Rules.{rules}
 use Rattle.records.proofs.framing.frame_at.Goals as goal
 use Rattle.records.proofs.framing.frame_at.Goals.{After-pair-size}
 

@@ -14,7 +14,6 @@ use Rattle.records.specs.declared.Record.TheVariants.{Rule, Faulty}
 use Rattle.records.specs.Records.{condition, action_number, opens_number, ending_length, ending, replacement, ending_place}
 use Rattle.records.specs.Records.{replacement_place, outside, faulty_numbers, faulty_letters, faulty_action, faulty_rule}
 use Rattle.records.specs.RecordAnswers.{rule_record}
-use borrow.Author.Rules.{rules}
 use Rattle.records.proofs.rules.rule_in.Goals as goal
 use Rattle.records.proofs.rules.rule_in.Goals.{After-above, After-faulty_action, After-faulty_letters, Else-above, Else-faulty_letters}
 

@@ -4,7 +4,6 @@ use native.Mathlib.Omega.{arith}
 use lib.Seq.{length-take-le}
 use Rattle.paths.specs.Children.{nodes_in}
 use Rattle.tables.specs.TryLaws.{obeys_early, obeys_other, obeys_judged}
-use borrow.Author.Rules.{rules}
 use Rattle.tables.proofs.runs.obeys.Goals as goal
 
 pub returns-then-number-found : goal.returns-then-number-found

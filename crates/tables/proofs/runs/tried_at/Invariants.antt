@@ -1,12 +1,8 @@
 -- `tables::runs::tried_at` meets its contract. The loop's invariant: the rules that are left decide.
 use Prim.Native.Nat.{◌-◌, ◌≤◌}
-use mathlib.Core.Path.{sym, ◌∙◌}
-use native.Mathlib.Omega.{arith}
 use lib.ListN.{length}
-use borrow.Author.Rules.{rules}
 use Rattle.paths.specs.Children.{nodes_in}
-use Rattle.sheets.specs.SheetPlaces.{RuleNext, never-over, never-alone, rule_next}
-use Rattle.tables.specs.TryLaws.{Trying, trying_start, trying_group, trying_end, trying_here, trying_next}
+use Rattle.tables.specs.TryLaws.{Trying}
 use Rattle.tables.proofs.runs.tried_at.Given as goal
 
 abbrev pub invariant-loop-place : goal.invariant-loop-place

@@ -1,17 +1,14 @@
 -- `tables::runs::walk_group` meets its contract: what a group leaves, case by case.
-use Prim.Native.Nat.{◌+◌, ◌-◌}
+use Prim.Native.Nat.{◌+◌}
 use mathlib.Core.Path.{sym}
 use native.Mathlib.Omega.{arith}
-use mathlib.Core.List.{List}
 use lib.ListN.{take}
 use lib.Seq.{length-take-le}
-use Rattle.paper.specs.Groups.{Rule}
 use Rattle.paths.specs.Children.{nodes_in}
 use Rattle.walks.specs.Walk.{walk_group}
 use Rattle.sheets.specs.Sheets.{rest_at}
 use Rattle.tables.specs.TryLaws.{rules_of, none_picked_as, some_picked_as}
 use Rattle.tables.specs.GroupStepLaws.{step_none, step_turned_down, Obeyed, obeyed}
-use borrow.Author.Rules.{rules}
 use Rattle.tables.proofs.runs.walk_group.Goals as goal
 use Rattle.tables.proofs.runs.walk_group.Goals.{Else-start-eq0}
 

@@ -1,12 +1,9 @@
-use Prim.Native.Nat.{◌-◌, ◌≤◌}
-use mathlib.Core.Path.{◌≡◌, refl, sym, ◌∙◌}
+use mathlib.Core.Path.{refl, sym, ◌∙◌}
 use native.Mathlib.Omega.{arith}
-use lib.ListN.{length, take}
-use borrow.Author.Rules.{rules}
 use borrow.Author.Tests.{not-true, not-false}
 use Rattle.paths.specs.Children.{nodes_in}
 use Rattle.sheets.specs.SheetPlaces.{GroupNext, RuleNext, never-over, never-alone, group_next, rule_next}
-use Rattle.tables.specs.WalkingLaws.{Walking, walking_start, walking_readable, walking_step, walking_outgrown, walking_skip}
+use Rattle.tables.specs.WalkingLaws.{walking_start, walking_readable, walking_step, walking_outgrown, walking_skip}
 use Rattle.tables.specs.WalkingLaws.{walking_rule, walking_end}
 use Rattle.tables.proofs.runs.walk_groups.Goals as goal
 use Rattle.tables.proofs.runs.walk_groups.Goals.{In-Group, In-Rule}

@@ -1,15 +1,10 @@
 -- `tables::runs::walk_groups` meets its contract. The loop's invariant: the groups that are left decide, on the letters that
 -- are left.
 use Prim.Native.Nat.{◌-◌, ◌≤◌}
-use mathlib.Core.Path.{◌≡◌, refl, sym, ◌∙◌}
-use native.Mathlib.Omega.{arith}
+use mathlib.Core.Path.{◌≡◌}
 use lib.ListN.{length, take}
-use borrow.Author.Rules.{rules}
-use borrow.Author.Tests.{not-true, not-false}
 use Rattle.paths.specs.Children.{nodes_in}
-use Rattle.sheets.specs.SheetPlaces.{GroupNext, RuleNext, never-over, never-alone, group_next, rule_next}
-use Rattle.tables.specs.WalkingLaws.{Walking, walking_start, walking_readable, walking_step, walking_outgrown, walking_skip}
-use Rattle.tables.specs.WalkingLaws.{walking_rule, walking_end}
+use Rattle.tables.specs.WalkingLaws.{Walking}
 use Rattle.tables.proofs.runs.walk_groups.Given as goal
 
 abbrev pub invariant-loop-at : goal.invariant-loop-at

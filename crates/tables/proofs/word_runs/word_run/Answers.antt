@@ -3,7 +3,6 @@
 use mathlib.Core.Path.{◌≡◌, refl, sym, ap, ◌∙◌}
 use native.Mathlib.Omega.{arith}
 use lib.Seq.{length-take-le}
-use borrow.Author.Rules.{rules}
 use Rattle.paper.specs.Words.{taken, judged}
 use Rattle.paper.specs.WordsLaws.{taken_short, gives_refused, gives_outgrown, gives_done}
 use Rattle.places.specs.Put.{put_back}

@@ -1,10 +1,8 @@
-use Prim.Native.Nat.{◌-◌, ◌≤◌}
 use mathlib.Core.Path.{◌≡◌, sym, ◌∙◌}
 use native.Mathlib.Omega.{arith}
 use lib.ListN.{length}
-use borrow.Author.Rules.{rules}
 use Rattle.sheets.specs.SheetPlaces.{GroupNext, RuleNext, never-over, never-alone, group_next, rule_next}
-use Rattle.translations.specs.RootLaws.{Rooting, rooting_start, rooting_group, rooting_rule, rooting_end}
+use Rattle.translations.specs.RootLaws.{rooting_start, rooting_group, rooting_rule, rooting_end}
 use Rattle.translations.specs.SheetLength.{sheet_short}
 use Rattle.translations.proofs.laying_out.begin.Goals as goal
 use Rattle.translations.proofs.laying_out.begin.Goals.{At-loop-at, In-Group, In-Rule}

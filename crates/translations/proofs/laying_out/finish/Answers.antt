@@ -2,12 +2,10 @@
 -- the rows of the children stored, and then the row itself.
 use Prim.Native.Nat.{◌-◌, ◌≤◌}
 use mathlib.Core.Bool.{cond}
-use mathlib.Core.Logic.{⊎_elim}
 use mathlib.Core.Path.{◌≡◌, refl, ◌∙◌}
 use native.Mathlib.Omega.{arith}
 use lib.Dec.{eqb}
 use lib.ListN.{length}
-use borrow.Author.Rules.{rules}
 use borrow.Author.Tests.{eq-eqb, ne_eqb}
 use Rattle.translations.specs.MidwayLaws.{tail_stands, midway_small, current_row, midway_step}
 use Rattle.translations.specs.SheetLength.{sheet_short}

@@ -1,8 +1,5 @@
-use Prim.Native.Nat.{◌-◌}
-use mathlib.Core.Path.{◌≡◌, refl, ◌∙◌}
+use mathlib.Core.Path.{refl, ◌∙◌}
 use native.Mathlib.Omega.{arith}
-use lib.ListN.{length}
-use Rattle.translations.specs.Midway.{Midway}
 use Rattle.translations.specs.MidwayLaws.{midway_fits, midway_small, midway_end}
 use Rattle.translations.proofs.laying_out.lay.Goals as goal
 

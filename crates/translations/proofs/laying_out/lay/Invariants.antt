@@ -1,10 +1,8 @@
 -- `translations::laying_out::lay` meets its contract. The loop's invariant: the table is midway, with so many rows finished.
 use Prim.Native.Nat.{◌-◌}
-use mathlib.Core.Path.{◌≡◌, refl, ◌∙◌}
-use native.Mathlib.Omega.{arith}
+use mathlib.Core.Path.{◌≡◌}
 use lib.ListN.{length}
 use Rattle.translations.specs.Midway.{Midway}
-use Rattle.translations.specs.MidwayLaws.{midway_fits, midway_small, midway_end}
 use Rattle.translations.proofs.laying_out.lay.Given as goal
 
 abbrev pub invariant-loop-row : goal.invariant-loop-row

@@ -1,7 +1,6 @@
 -- `translations::laying_out::letter_of` meets its contract, case by case.
 use native.Mathlib.Omega.{arith}
 use mathlib.Core.Path.{◌∙◌}
-use borrow.Author.Rules.{rules}
 use Rattle.translations.specs.EndingLaws.{letter_none, letter_beyond, letter_here}
 use Rattle.translations.proofs.laying_out.letter_of.Goals as goal
 

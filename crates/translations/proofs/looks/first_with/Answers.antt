@@ -1,6 +1,5 @@
 -- `translations::looks::first_with` meets its contract, case by case.
 use mathlib.Core.Path.{sym, ◌∙◌}
-use borrow.Author.Rules.{rules}
 use borrow.Author.Tests.{eq-eqb, ne_eqb}
 use Rattle.paper.specs.GroupsLaws.{same_long}
 use Rattle.translations.specs.EndingLaws.{same_ends}

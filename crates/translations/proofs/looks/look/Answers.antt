@@ -1,12 +1,8 @@
-use Prim.Native.Nat.{◌-◌, ◌≤◌}
-use mathlib.Core.List.{List}
-use mathlib.Core.Path.{◌≡◌, refl, sym, ap, ◌∙◌}
+use mathlib.Core.Path.{refl, sym, ap, ◌∙◌}
 use native.Mathlib.Omega.{arith}
 use lib.ListN.{length}
-use borrow.Author.Rules.{rules}
-use Rattle.paper.specs.Groups.{Rule}
 use Rattle.sheets.specs.SheetPlaces.{RuleNext, never-over, never-alone, rule_next}
-use Rattle.translations.specs.Looking.{Reads, Looking}
+use Rattle.translations.specs.Looking.{Looking}
 use Rattle.translations.specs.LookLaws.{looking_start, looking_rule, looking_group, looking_end, rule_small}
 use Rattle.translations.proofs.looks.look.Goals as goal
 use Rattle.translations.proofs.looks.look.Goals.{At-loop-at, In-Rule}

@@ -2,14 +2,10 @@
 -- through it is midway here.
 use Prim.Native.Nat.{◌-◌, ◌≤◌}
 use mathlib.Core.List.{List}
-use mathlib.Core.Path.{◌≡◌, refl, sym, ap, ◌∙◌}
-use native.Mathlib.Omega.{arith}
+use mathlib.Core.Path.{◌≡◌}
 use lib.ListN.{length}
-use borrow.Author.Rules.{rules}
 use Rattle.paper.specs.Groups.{Rule}
-use Rattle.sheets.specs.SheetPlaces.{RuleNext, never-over, never-alone, rule_next}
 use Rattle.translations.specs.Looking.{Reads, Looking}
-use Rattle.translations.specs.LookLaws.{looking_start, looking_rule, looking_group, looking_end, rule_small}
 use Rattle.translations.proofs.looks.look.Given as goal
 
 abbrev pub invariant-loop-at : goal.invariant-loop-at

@@ -1,7 +1,6 @@
 -- `translations::looks::note` meets its contract, case by case.
 use mathlib.Core.Path.{◌≡◌, refl, sym, ◌∙◌}
 use mathlib.Core.Bool.{true}
-use borrow.Author.Rules.{rules}
 use borrow.Author.Tests.{not-true, not-false}
 use Rattle.paper.specs.Groups.{ends_with}
 use Rattle.translations.specs.EndingLaws.{noted_short, noted_other, noted_low, noted_kept, noted_new}

@@ -1,7 +1,6 @@
 -- `translations::rows::put` meets its contract: a store, or nothing beyond the table's end.
 use mathlib.Core.Path.{sym}
 use lib.Seq.{set_out}
-use borrow.Author.Rules.{rules}
 use Rattle.translations.proofs.rows.put.Goals as goal
 
 pub returns-else-place-list : goal.returns-else-place-list

@@ -1,8 +1,5 @@
-use Prim.Native.Nat.{◌+◌, ◌-◌, ◌≤◌}
-use mathlib.Core.Path.{◌≡◌, refl, sym, ◌∙◌}
+use mathlib.Core.Path.{refl, sym, ◌∙◌}
 use native.Mathlib.Omega.{arith}
-use lib.ListN.{length, drop}
-use Rattle.translations.specs.Storing.{how_many, put_each}
 use Rattle.translations.specs.StoreLaws.{each_skip, each_put, each_over}
 use Rattle.translations.proofs.rows.put_each.Goals as goal
 

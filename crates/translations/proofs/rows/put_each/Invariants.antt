@@ -1,10 +1,8 @@
 -- `translations::rows::put_each` meets its contract. The loop's invariant: the ends that are left lead to what all of them do.
 use Prim.Native.Nat.{◌+◌, ◌-◌, ◌≤◌}
-use mathlib.Core.Path.{◌≡◌, refl, sym, ◌∙◌}
-use native.Mathlib.Omega.{arith}
+use mathlib.Core.Path.{◌≡◌}
 use lib.ListN.{length, drop}
 use Rattle.translations.specs.Storing.{how_many, put_each}
-use Rattle.translations.specs.StoreLaws.{each_skip, each_put, each_over}
 use Rattle.translations.proofs.rows.put_each.Given as goal
 
 abbrev pub invariant-loop-k : goal.invariant-loop-k

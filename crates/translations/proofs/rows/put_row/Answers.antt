@@ -1,6 +1,5 @@
 -- `translations::rows::put_row` meets its contract: four stores, one after another.
 use Rattle.translations.specs.StoreLaws.{row_stores}
-use borrow.Author.Rules.{rules}
 use Rattle.translations.proofs.rows.put_row.Goals as goal
 
 pub returns : goal.returns
