@@ -4,9 +4,8 @@ use Rattle.groups.proofs.Cuts.{left_cuts}
 use Rattle.groups.proofs.cut_by.Goals as goal
 
 pub returns-then-to-rules : goal.returns-then-to-rules
-returns-then-to-rules c = let s = c in
-    λ group noted narrowed all.
-    left_cuts s.args.rules.now s.args.to _ (omega arith) group s.args.word.now
+returns-then-to-rules c = λ group noted narrowed all.
+    left_cuts c.args.rules.now c.args.to _ (omega arith) group c.args.word.now
     (c.chosen-rule.ensures.chosen_by group noted narrowed) all _ _ c.left_by.ensures.len_value c.left_by.ensures.opened_value
 
 pub returns : goal.returns

@@ -4,5 +4,4 @@ use Rattle.imports.specs.RuleRecords.{body_fault}
 use Rattle.imports.proofs.faulty_body.Goals as goal
 
 pub returns : goal.returns
-returns c = let s = c in
-    rw c.faulty_action-unfit.ensures (sym (body_fault s.args.rest.now s.args.rule s.requires))
+returns c = rw c.faulty_action-unfit.ensures (sym (body_fault c.args.rest.now c.args.rule c.requires))

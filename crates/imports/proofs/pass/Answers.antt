@@ -21,8 +21,7 @@ found : (c : After-line)
     → found_in (drop c.loop-at.at c.args.text.now)
     ≡ c.line.result
 found c =
-    let loop = c in
-    ap found_in (sym (to_the_end loop.args.text.now loop.loop-at.at)) ∙ sym c.line.ensures
+    ap found_in (sym (to_the_end c.args.text.now c.loop-at.at)) ∙ sym c.line.ensures
 
 group : (c : In-Group) (known_found : found_in (drop c.loop-at.at c.args.text.now)
     ≡ c.line.result)
@@ -54,8 +53,7 @@ beyond-group : (c : In-Group) (known_group : found_in
     × (c.loop-at.at + c.in-Group.taken
     ≤ length c.args.text.now)
 beyond-group c known_group =
-    let turn = c in
-    group_inside turn.loop-at.invariant.1 _ _ known_group turn.loop-at-test.true
+    group_inside c.loop-at.invariant.1 _ _ known_group c.loop-at-test.true
 
 -- what was asked of the part that was lent, said of the rest of the text
 faulty-is : (c : After-faulty_body)
@@ -77,22 +75,17 @@ beyond-rule : (c : In-Rule) (known_rule : found_in
     × (c.loop-at.at + c.in-Rule.rule.taken
     ≤ length c.args.text.now)
 beyond-rule c known_rule =
-    let turn = c in
-    rule_inside turn.loop-at.invariant.1 _ known_rule turn.loop-at-test.true
+    rule_inside c.loop-at.invariant.1 _ known_rule c.loop-at-test.true
 
 pub loop-at-init : goal.loop-at-init
 loop-at-init c = (omega arith, starts _ _)
 
 pub returns-then-misplaced_group : goal.returns-then-misplaced_group
-returns-then-misplaced_group c = let here = c in
-    let turn = here in
-    group_fault turn.loop-at.invariant.1 _ _ (group (goal.at.returns-then-misplaced_group c).In-Group (found (goal.at.returns-then-misplaced_group c).After-line)) turn.loop-at-test.true
+returns-then-misplaced_group c = group_fault c.loop-at.invariant.1 _ _ (group (goal.at.returns-then-misplaced_group c).In-Group (found (goal.at.returns-then-misplaced_group c).After-line)) c.loop-at-test.true
     (sym c.misplaced_group.ensures ∙ c.if-misplaced_group.true)
 
 pub put_group-size-requires : goal.put_group-size-requires
-put_group-size-requires c = let here = c in
-    let turn = here in
-    (low turn.loop-at.invariant.1, (found_here _ _ (group (goal.at.put_group-size-requires c).In-Group (found (goal.at.put_group-size-requires c).After-line))).gate_low)
+put_group-size-requires c = (low c.loop-at.invariant.1, (found_here _ _ (group (goal.at.put_group-size-requires c).In-Group (found (goal.at.put_group-size-requires c).After-line))).gate_low)
 
 pub overflow_add-at : goal.overflow_add-at
 overflow_add-at c = omega (arith, beyond-group (goal.at.overflow_add-at c).In-Group (group (goal.at.overflow_add-at c).In-Group (found (goal.at.overflow_add-at c).After-line)))
@@ -101,37 +94,26 @@ pub loop-at-smaller-in-Group : goal.loop-at-smaller-in-Group
 loop-at-smaller-in-Group c = omega (arith, beyond-group (goal.at.loop-at-smaller-in-Group c).In-Group (group (goal.at.loop-at-smaller-in-Group c).In-Group (found (goal.at.loop-at-smaller-in-Group c).After-line)))
 
 pub loop-at-preserved-in-Group : goal.loop-at-preserved-in-Group
-loop-at-preserved-in-Group c = let put = c in
-    let else = put in
-    let here = else in
-    let placed = sym else.misplaced_group.ensures ∙ else.if-misplaced_group.false in
-    let turn = here in (
+loop-at-preserved-in-Group c = let placed = sym c.misplaced_group.ensures ∙ c.if-misplaced_group.false in
+    (
       (beyond-group (goal.at.loop-at-preserved-in-Group c).In-Group (group (goal.at.loop-at-preserved-in-Group c).In-Group (found (goal.at.loop-at-preserved-in-Group c).After-line))).1,
-      rw put.put_group-size.ensures.value (after_group turn.loop-at.invariant.1 _ _ (group (goal.at.loop-at-preserved-in-Group c).In-Group (found (goal.at.loop-at-preserved-in-Group c).After-line)) placed put.put_group-size.ensures.appends),
+      rw c.put_group-size.ensures.value (after_group c.loop-at.invariant.1 _ _ (group (goal.at.loop-at-preserved-in-Group c).In-Group (found (goal.at.loop-at-preserved-in-Group c).After-line)) placed c.put_group-size.ensures.appends),
     )
 
 pub faulty_body-requires : goal.faulty_body-requires
-faulty_body-requires c = let here = c in
-    let turn = here in
-    rw to_the_end (rule_line turn.loop-at.invariant.1 _ (rule (goal.at.faulty_body-requires c).In-Rule (found (goal.at.faulty_body-requires c).After-line)))
+faulty_body-requires c = rw to_the_end (rule_line c.loop-at.invariant.1 _ (rule (goal.at.faulty_body-requires c).In-Rule (found (goal.at.faulty_body-requires c).After-line)))
 
 pub returns-then-misplaced_rule-faulty_body : goal.returns-then-misplaced_rule-faulty_body
 unfolding misplaced_rule
-returns-then-misplaced_rule-faulty_body c = let asked = c in
-    let misplaced = asked in
-    let here = misplaced in
-    let turn = here in
-    let state = turn.loop-at.invariant.1 in
-    or_cases misplaced.misplaced_rule.result asked.faulty_body.result c.if-misplaced_rule-faulty_body.true
-    (λ is. rule_misplaced state _ (rule (goal.at.returns-then-misplaced_rule-faulty_body c).In-Rule (found (goal.at.returns-then-misplaced_rule-faulty_body c).After-line)) turn.loop-at-test.true (sym misplaced.misplaced_rule.ensures ∙ is))
-    (λ is. rule_faulty state _ (rule (goal.at.returns-then-misplaced_rule-faulty_body c).In-Rule (found (goal.at.returns-then-misplaced_rule-faulty_body c).After-line)) turn.loop-at-test.true (sym (faulty-is (goal.at.returns-then-misplaced_rule-faulty_body c).After-faulty_body) ∙ is))
+returns-then-misplaced_rule-faulty_body c = let state = c.loop-at.invariant.1 in
+    or_cases c.misplaced_rule.result c.faulty_body.result c.if-misplaced_rule-faulty_body.true
+    (λ is. rule_misplaced state _ (rule (goal.at.returns-then-misplaced_rule-faulty_body c).In-Rule (found (goal.at.returns-then-misplaced_rule-faulty_body c).After-line)) c.loop-at-test.true (sym c.misplaced_rule.ensures ∙ is))
+    (λ is. rule_faulty state _ (rule (goal.at.returns-then-misplaced_rule-faulty_body c).In-Rule (found (goal.at.returns-then-misplaced_rule-faulty_body c).After-line)) c.loop-at-test.true (sym (faulty-is (goal.at.returns-then-misplaced_rule-faulty_body c).After-faulty_body) ∙ is))
 
 pub put_rule-size-requires : goal.put_rule-size-requires
-put_rule-size-requires c = let asked = c in
-    let here = asked in
-    let state = here.loop-at.invariant.1 in
-    let sound = neither_right asked.misplaced_rule.result asked.faulty_body.result c.if-misplaced_rule-faulty_body.false in
-    (low state, (rw to_the_end (rule_line state _ (rule (goal.at.put_rule-size-requires c).In-Rule (found (goal.at.put_rule-size-requires c).After-line))), sym asked.faulty_body.ensures ∙ sound))
+put_rule-size-requires c = let state = c.loop-at.invariant.1 in
+    let sound = neither_right c.misplaced_rule.result c.faulty_body.result c.if-misplaced_rule-faulty_body.false in
+    (low state, (rw to_the_end (rule_line state _ (rule (goal.at.put_rule-size-requires c).In-Rule (found (goal.at.put_rule-size-requires c).After-line))), sym c.faulty_body.ensures ∙ sound))
 
 pub overflow_add-at-in-Rule : goal.overflow_add-at-in-Rule
 overflow_add-at-in-Rule c = omega (arith, beyond-rule (goal.at.overflow_add-at-in-Rule c).In-Rule (rule (goal.at.overflow_add-at-in-Rule c).In-Rule (found (goal.at.overflow_add-at-in-Rule c).After-line)))
@@ -141,24 +123,16 @@ loop-at-smaller c = omega (arith, beyond-rule (goal.at.loop-at-smaller c).In-Rul
 
 pub loop-at-preserved : goal.loop-at-preserved
 unfolding misplaced_rule
-loop-at-preserved c = let put = c in
-    let else = put in
-    let asked = else in
-    let misplaced = asked in
-    let here = misplaced in
-    let state = here.loop-at.invariant.1 in
-    let away = misplaced.misplaced_rule.result in
-    let fault = asked.faulty_body.result in
-    let placed = sym misplaced.misplaced_rule.ensures ∙ neither_left away fault else.if-misplaced_rule-faulty_body.false in
-    let sound = sym (faulty-is (goal.at.loop-at-preserved c).After-faulty_body) ∙ neither_right away fault else.if-misplaced_rule-faulty_body.false in
-    let wrote = rw to_the_end at put.put_rule-size.ensures in
+loop-at-preserved c = let state = c.loop-at.invariant.1 in
+    let away = c.misplaced_rule.result in
+    let fault = c.faulty_body.result in
+    let placed = sym c.misplaced_rule.ensures ∙ neither_left away fault c.if-misplaced_rule-faulty_body.false in
+    let sound = sym (faulty-is (goal.at.loop-at-preserved c).After-faulty_body) ∙ neither_right away fault c.if-misplaced_rule-faulty_body.false in
+    let wrote = rw to_the_end at c.put_rule-size.ensures in
     ((beyond-rule (goal.at.loop-at-preserved c).In-Rule (rule (goal.at.loop-at-preserved c).In-Rule (found (goal.at.loop-at-preserved c).After-line))).1, rw wrote.value (after_rule state _ (rule (goal.at.loop-at-preserved c).In-Rule (found (goal.at.loop-at-preserved c).After-line)) placed sound wrote.appends))
 
 pub returns-in-Wrong : goal.returns-in-Wrong
-returns-in-Wrong c = let turn = c in
-    wrong_line turn.loop-at.invariant.1 turn.loop-at-test.true (found (goal.at.returns-in-Wrong c).After-line ∙ c.in-Wrong.is)
+returns-in-Wrong c = wrong_line c.loop-at.invariant.1 c.loop-at-test.true (found (goal.at.returns-in-Wrong c).After-line ∙ c.in-Wrong.is)
 
 pub returns : goal.returns
-returns c = let put = c in
-    let end = put in
-    rw put.put_end.ensures.value (all_passed end.loop-at.invariant.1 end.loop-at-test.false put.put_end.ensures.appends)
+returns c = rw c.put_end.ensures.value (all_passed c.loop-at.invariant.1 c.loop-at-test.false c.put_end.ensures.appends)

@@ -5,4 +5,4 @@ use Rattle.imports.specs.RuleRecords.{group_bytes}
 use Rattle.imports.proofs.put_group.Goals as goal
 
 pub returns : goal.returns
-returns c = let s = c in record { appends = rw (group_bytes s.args.gate s.requires.1) (rw c.put.ensures (appends_put _ _ _)); value = rw (group_bytes s.args.gate s.requires.1) refl }
+returns c = record { appends = rw (group_bytes c.args.gate c.requires.1) (rw c.put.ensures (appends_put _ _ _)); value = rw (group_bytes c.args.gate c.requires.1) refl }

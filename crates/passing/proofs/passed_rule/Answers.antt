@@ -34,5 +34,4 @@ pub returns-then-body-end : goal.returns-then-body-end
 returns-then-body-end c = too_short _ _ _ c.wide-n.ensures.value c.if-body-lt4.false c.if-body-end.true
 
 pub returns : goal.returns
-returns c = let read = c in
-    told _ _ _ read.wide-n.ensures.value read.if-body-lt4.false read.if-body-end.false
+returns c = told _ _ _ c.wide-n.ensures.value c.if-body-lt4.false c.if-body-end.false

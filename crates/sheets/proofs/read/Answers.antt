@@ -20,9 +20,8 @@ group_of : (c : After-misplaced_group)
     → (let drawn = c in
     GroupAt drawn.args.sheet.now drawn.loop-at.at c.in-Group.gate c.in-Group.next)
 group_of c =
-    let drawn = c in
-    record_here drawn.args.sheet.now drawn.loop-at.at (Group c.in-Group.gate c.in-Group.next)
-    (sym drawn.draw-found.ensures ∙ c.in-Group.is)
+    record_here c.args.sheet.now c.loop-at.at (Group c.in-Group.gate c.in-Group.next)
+    (sym c.draw-found.ensures ∙ c.in-Group.is)
 
 group_judged : (groups number : ℕ) (bytes : List ℕ) → number ≡ gate_number bytes
     → (eqb groups 0 && eqb number 1) || leb 16 groups ≡ misplaced_group groups bytes
@@ -40,10 +39,9 @@ rule-of : (c : After-misplaced_rule)
     → (let drawn = c in
     RuleAt drawn.args.sheet.now drawn.loop-at.at c.in-Rule.condition c.in-Rule.action c.in-Rule.opens c.in-Rule.start c.in-Rule.middle c.in-Rule.next)
 rule-of c =
-    let drawn = c in
-    record_here drawn.args.sheet.now drawn.loop-at.at
+    record_here c.args.sheet.now c.loop-at.at
     (Rule c.in-Rule.condition c.in-Rule.action c.in-Rule.opens c.in-Rule.start c.in-Rule.middle c.in-Rule.next)
-    (sym drawn.draw-found.ensures ∙ c.in-Rule.is)
+    (sym c.draw-found.ensures ∙ c.in-Rule.is)
 
 rule-test : (c : After-misplaced_rule)
     → (let turn = c.loop-at in
@@ -93,16 +91,14 @@ loop-at-preserved c = let turn = c.loop-at in
 
 -- ## The end, a faulty record, and nothing left
 pub returns-in-End : goal.returns-in-End
-returns-in-End c = let drawn = c in
-    last_record drawn.loop-at.invariant.3
-    (record_here drawn.args.sheet.now drawn.loop-at.at End (sym drawn.draw-found.ensures ∙ c.in-End.is))
+returns-in-End c = last_record c.loop-at.invariant.3
+    (record_here c.args.sheet.now c.loop-at.at End (sym c.draw-found.ensures ∙ c.in-End.is))
 
 pub returns-in-Faulty : goal.returns-in-Faulty
-returns-in-Faulty c = let drawn = c in
-    let turn = drawn.loop-at in
+returns-in-Faulty c = let turn = c.loop-at in
     faulty_record turn.invariant.3
-    (fault_alone turn.groups turn.rules (drop turn.at drawn.args.sheet.now)
-    (record_here drawn.args.sheet.now turn.at Faulty (sym drawn.draw-found.ensures ∙ c.in-Faulty.is)))
+    (fault_alone turn.groups turn.rules (drop turn.at c.args.sheet.now)
+    (record_here c.args.sheet.now turn.at Faulty (sym c.draw-found.ensures ∙ c.in-Faulty.is)))
 
 pub returns : goal.returns
 returns c = let sheet = c.args.sheet.now in

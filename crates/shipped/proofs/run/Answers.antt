@@ -16,6 +16,5 @@ given : (word : List ℕ) {sheet table after : List ℕ} {number value : ℕ} �
 given word is also gives = rw (is, also, delivered_reads) at gives
 
 pub returns : goal.returns
-returns c = let made = c in
-    given made.args.word.now made.sheet-rules.ensures
+returns c = given c.args.word.now c.sheet-rules.ensures
     c.table-nodes.ensures c.run.ensures

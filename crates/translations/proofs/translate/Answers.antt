@@ -26,9 +26,8 @@ pub returns-then-table-end : goal.returns-then-table-end
 returns-then-table-end c = translation_short _ _ _ _ (counted_of (goal.at.returns-then-table-end c).In-Accepted) c.if-table-end.true
 
 pub slice_bounds-lay-end-in-Accepted : goal.slice_bounds-lay-end-in-Accepted
-slice_bounds-lay-end-in-Accepted c = let known = c in
-    sym (length-take-le (4 * known.in-Accepted.nodes)
-    known.args.table.now c.if-table-end.false)
+slice_bounds-lay-end-in-Accepted c = sym (length-take-le (4 * c.in-Accepted.nodes)
+    c.args.table.now c.if-table-end.false)
 
 pub lay-requires : goal.lay-requires
 lay-requires c = let is = checked_accepted _ _ _ (counted_of (goal.at.lay-requires c).In-Accepted) in
@@ -38,5 +37,4 @@ pub returns-in-Refused : goal.returns-in-Refused
 returns-in-Refused c = translation_refused _ _ _ (sym (ap tells c.in-Refused.is) ∙ c.check-found.ensures)
 
 pub returns-else-table-end : goal.returns-else-table-end
-returns-else-table-end c = let fits = c in
-    translation_done _ _ _ _ (counted_of (goal.at.returns-else-table-end c).In-Accepted) _ fits.if-table-end.false c.lay.ensures
+returns-else-table-end c = translation_done _ _ _ _ (counted_of (goal.at.returns-else-table-end c).In-Accepted) _ c.if-table-end.false c.lay.ensures

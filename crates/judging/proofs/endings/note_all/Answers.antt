@@ -23,8 +23,7 @@ rule-of c =
     (sym c.pass-found.ensures ∙ c.in-Rule.is)
 
 pub loop-at-init : goal.loop-at-init
-loop-at-init c = let start = c in
-    (omega arith, omega arith, omega arith, refl, noting_start _ _ _ start.requires.0 start.requires.1.1.1)
+loop-at-init c = (omega arith, omega arith, omega arith, refl, noting_start _ _ _ c.requires.0 c.requires.1.1.1)
 
 pub overflow_add-groups : goal.overflow_add-groups
 overflow_add-groups c = let few = (group_of (goal.at.overflow_add-groups c).In-Group).few in omega arith
@@ -73,8 +72,7 @@ pub loop-at-preserved : goal.loop-at-preserved
 loop-at-preserved c = let turn = c.loop-at in
     let next = rule-of (goal.at.loop-at-preserved c).In-Rule in
     let called = c.note in
-    let start = c in
-    let rooted = rooted_in start.requires.1.0 (root_here turn.invariant.4 next) turn.invariant.3 in
+    let rooted = rooted_in c.requires.1.0 (root_here turn.invariant.4 next) turn.invariant.3 in
     let leads = sym called.ensures.value ∙ not-false _ c.if-not-note.false-raw in (
       next.facts.inside,
       turn.invariant.1,

@@ -64,5 +64,4 @@ pub returns-then-len-body : goal.returns-then-len-body
 returns-then-len-body c = no_body _ _ _ c.pair-size.ensures.value (long (goal.at.returns-then-len-body c).After-pair-size) c.if-len-body.true
 
 pub returns : goal.returns
-returns c = let first = c in
-    not_cut _ _ _ first.pair-size.ensures.value (long (goal.at.returns c).After-pair-size) c.if-len-body.false _ c.pair-kind.ensures.value
+returns c = not_cut _ _ _ c.pair-size.ensures.value (long (goal.at.returns c).After-pair-size) c.if-len-body.false _ c.pair-kind.ensures.value

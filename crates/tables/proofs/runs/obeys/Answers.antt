@@ -18,9 +18,8 @@ returns-then-found-held_at c = let a = c.args in
 
 pub returns : goal.returns
 returns c = let a = c.args in
-    let tested = c in
     obeys_judged (nodes_in a.table.now) a.root a.found a.word.now a.number a.condition a.ending.now _ _
-    c.less-part.result tested.if-number-found.false tested.held_at.ensures tested.if-found-held_at.false
+    c.less-part.result c.if-number-found.false c.held_at.ensures c.if-found-held_at.false
     c.less-part.ensures c.holds.ensures
 
 pub slice_bounds-holds-end : goal.slice_bounds-holds-end

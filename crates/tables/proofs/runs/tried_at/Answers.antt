@@ -43,16 +43,14 @@ pub obeys-requires : goal.obeys-requires
 obeys-requires c = c.requires.1.1.1
 
 pub returns-then-obeys : goal.returns-then-obeys
-returns-then-obeys c = let known = c in
-    let turn = known.loop-place in
+returns-then-obeys c = let turn = c.loop-place in
     rw (trying_here turn.invariant.2 (rule-of (goal.at.returns-then-obeys c).In-Rule) c.obeys.ensures c.if-obeys.true) (_, (rule-of (goal.at.returns-then-obeys c).In-Rule).facts)
 
 pub loop-place-smaller : goal.loop-place-smaller
 loop-place-smaller c = let next = rule-of (goal.at.loop-place-smaller c).In-Rule in omega (arith, next.forward, next.facts.inside)
 
 pub loop-place-preserved : goal.loop-place-preserved
-loop-place-preserved c = let known = c in
-    let turn = known.loop-place in
+loop-place-preserved c = let turn = c.loop-place in
     let next = rule-of (goal.at.loop-place-preserved c).In-Rule in
     (next.facts.inside, omega (arith, next.few), trying_next turn.invariant.2 next c.obeys.ensures c.if-obeys.false)
 

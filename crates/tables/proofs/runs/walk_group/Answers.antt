@@ -20,27 +20,22 @@ obeyed-of : (c : Else-start-eq0)
     Obeyed (walk_group (nodes_in a.table.now) a.root (a.rules + 1) (take a.size a.word.now) (rules_of (rest_at start.args.sheet.now start.args.at start.args.groups start.args.rules))) a.sheet.now
     a.word.now a.size rule.action rule.opens rule.start rule.middle rule.next)
 obeyed-of c =
-    let start = c in
     let deep = c.deepest-found.ensures in
-    obeyed _ _ _ _ _ (rules_of (rest_at start.args.sheet.now start.args.at start.args.groups start.args.rules)) _ start.requires.1.1.1.1 deep c.if-found-eq0.false
+    obeyed _ _ _ _ _ (rules_of (rest_at c.args.sheet.now c.args.at c.args.groups c.args.rules)) _ c.requires.1.1.1.1 deep c.if-found-eq0.false
     _ _ _ _ _ _ (some_picked_as _ _ _ _ _ _ _ c.tried_at-rule.ensures c.if-start-eq0.false)
 
 pub slice_bounds-deepest-end-2 : goal.slice_bounds-deepest-end-2
-slice_bounds-deepest-end-2 c = let start = c in
-    sym (length-take-le start.args.size start.args.word.now start.requires.1.1.1.1)
+slice_bounds-deepest-end-2 c = sym (length-take-le c.args.size c.args.word.now c.requires.1.1.1.1)
 
 pub returns-then-found-eq0 : goal.returns-then-found-eq0
-returns-then-found-eq0 c = let start = c in
-    step_none _ _ _ _ _ (rules_of (rest_at start.args.sheet.now start.args.at start.args.groups start.args.rules)) _ start.requires.1.1.1.1 c.deepest-found.ensures c.if-found-eq0.true
+returns-then-found-eq0 c = step_none _ _ _ _ _ (rules_of (rest_at c.args.sheet.now c.args.at c.args.groups c.args.rules)) _ c.requires.1.1.1.1 c.deepest-found.ensures c.if-found-eq0.true
 
 pub slice_bounds-tried_at-end-2 : goal.slice_bounds-tried_at-end-2
-slice_bounds-tried_at-end-2 c = let start = c in
-    sym (length-take-le start.args.size start.args.word.now start.requires.1.1.1.1)
+slice_bounds-tried_at-end-2 c = sym (length-take-le c.args.size c.args.word.now c.requires.1.1.1.1)
 
 pub returns-then-start-eq0 : goal.returns-then-start-eq0
-returns-then-start-eq0 c = let start = c in
-    let deep = c.deepest-found.ensures in
-    step_turned_down _ _ _ _ _ (rules_of (rest_at start.args.sheet.now start.args.at start.args.groups start.args.rules)) _ start.requires.1.1.1.1 deep c.if-found-eq0.false
+returns-then-start-eq0 c = let deep = c.deepest-found.ensures in
+    step_turned_down _ _ _ _ _ (rules_of (rest_at c.args.sheet.now c.args.at c.args.groups c.args.rules)) _ c.requires.1.1.1.1 deep c.if-found-eq0.false
     (none_picked_as _ _ _ _ _ _ _ c.tried_at-rule.ensures c.if-start-eq0.true)
 
 pub overflow_sub-middle : goal.overflow_sub-middle
@@ -67,14 +62,12 @@ pub slice_bounds-put-end : goal.slice_bounds-put-end
 slice_bounds-put-end c = (obeyed-of (goal.at.slice_bounds-put-end c).Else-start-eq0).inside
 
 pub overflow_add-result : goal.overflow_add-result
-overflow_add-result c = let found = c in
-    let start = found in
-    omega (
+overflow_add-result c = omega (
       arith,
       c.if-word-part.false,
       c.less-part.ensures,
-      start.requires.1.1.1.1,
-      start.type_inv.word,
+      c.requires.1.1.1.1,
+      c.type_inv.word,
     )
 
 pub returns : goal.returns

@@ -46,8 +46,7 @@ shape_of-word-then-not-step c = c.walk_group-step.auto.word
     ∙ c.loop-at.invariant.4
 
 pub returns-then-not-step : goal.returns-then-not-step
-returns-then-not-step c = let known = c in
-    let turn = known.loop-at in
+returns-then-not-step c = let turn = c.loop-at in
     let runs = c.if-gate-opened.true in
     let stepped = rw turn.invariant.4 at c.walk_group-step.ensures in
     walking_outgrown turn.invariant.5 (group_of (goal.at.returns-then-not-step c).In-Group) _ _ _ _ runs stepped (not-true _ c.if-not-step.true)
@@ -56,8 +55,7 @@ pub loop-at-smaller-then-gate-opened : goal.loop-at-smaller-then-gate-opened
 loop-at-smaller-then-gate-opened c = let next = group_of (goal.at.loop-at-smaller-then-gate-opened c).In-Group in omega (arith, next.forward, next.inside)
 
 pub loop-at-preserved-then-gate-opened : goal.loop-at-preserved-then-gate-opened
-loop-at-preserved-then-gate-opened c = let known = c in
-    let turn = known.loop-at in
+loop-at-preserved-then-gate-opened c = let turn = c.loop-at in
     let next = group_of (goal.at.loop-at-preserved-then-gate-opened c).In-Group in
     let kept = c.walk_group-step.auto.word in
     let fits = not-false _ c.if-not-step.false in

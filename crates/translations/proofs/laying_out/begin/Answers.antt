@@ -27,18 +27,14 @@ same-room : (c : At-loop-at) → length c.loop-at.table ≡ length c.args.table.
 same-room c = c.loop-at.invariant.3.room ∙ sym c.requires.1
 
 pub loop-at-init : goal.loop-at-init
-loop-at-init c = let start = c in
-    let a = start.args in
-    (omega arith, omega arith, omega arith, rooting_start a.sheet.now a.table.now start.requires.0 start.requires.1)
+loop-at-init c = let a = c.args in
+    (omega arith, omega arith, omega arith, rooting_start a.sheet.now a.table.now c.requires.0 c.requires.1)
 
 pub put_row-requires : goal.put_row-requires
-put_row-requires c = let known = c in
-    let looped = known in
-    let start = looped in
-    let next = group_of (goal.at.put_row-requires c).In-Group in
-    let short = sheet_short start.args.sheet.now start.requires.0 in (
-      omega (arith, looped.loop-at.invariant.1),
-      (omega arith, (omega (arith, next.inside), (omega arith, omega (arith, looped.loop-at.invariant.2)))),
+put_row-requires c = let next = group_of (goal.at.put_row-requires c).In-Group in
+    let short = sheet_short c.args.sheet.now c.requires.0 in (
+      omega (arith, c.loop-at.invariant.1),
+      (omega arith, (omega (arith, next.inside), (omega arith, omega (arith, c.loop-at.invariant.2)))),
     )
 
 pub overflow_add-roots : goal.overflow_add-roots
@@ -48,8 +44,7 @@ pub loop-at-smaller-in-Group : goal.loop-at-smaller-in-Group
 loop-at-smaller-in-Group c = let next = group_of (goal.at.loop-at-smaller-in-Group c).In-Group in omega (arith, next.forward, next.inside)
 
 pub loop-at-preserved-in-Group : goal.loop-at-preserved-in-Group
-loop-at-preserved-in-Group c = let known = c in
-    let turn = known.loop-at in
+loop-at-preserved-in-Group c = let turn = c.loop-at in
     let next = group_of (goal.at.loop-at-preserved-in-Group c).In-Group in (
       next.inside,
       omega (arith, next.few),
@@ -72,8 +67,7 @@ pub shape_of-table-in-End : goal.shape_of-table-in-End
 shape_of-table-in-End c = same-room (goal.at.shape_of-table-in-End c).At-loop-at
 
 pub returns-in-End : goal.returns-in-End
-returns-in-End c = let looped = c in
-    rooting_end looped.loop-at.invariant.3 looped.requires.0
+returns-in-End c = rooting_end c.loop-at.invariant.3 c.requires.0
     (sym c.pass-found.ensures ∙ c.in-End.is)
 
 pub shape_of-table-in-Faulty : goal.shape_of-table-in-Faulty

@@ -12,11 +12,10 @@ state-of : (c : At-loop-at)
     → (let start = c in
     Looking start.args.sheet.now start.args.before start.requires.0.list start.args.tail.now c.loop-at.at c.loop-at.number
     c.loop-at.rule c.loop-at.ends)
-state-of c = let start = c in c.loop-at.invariant.3 start.requires.0.list start.requires.0.reads
+state-of c = c.loop-at.invariant.3 c.requires.0.list c.requires.0.reads
 
 -- a rule was passed, and this stands after it
-rule-of : (c : In-Rule) (known_state-of : (let start = c in
-    Looking start.args.sheet.now start.args.before start.requires.0.list start.args.tail.now c.loop-at.at c.loop-at.number
+rule-of : (c : In-Rule) (known_state-of : (Looking c.args.sheet.now c.args.before c.requires.0.list c.args.tail.now c.loop-at.at c.loop-at.number
     c.loop-at.rule c.loop-at.ends))
     → (RuleNext known_state-of.reads.holds c.in-Rule.condition c.in-Rule.action c.in-Rule.opens
     c.in-Rule.start c.in-Rule.middle c.in-Rule.next)
@@ -25,13 +24,12 @@ rule-of c known_state-of =
     (sym c.pass-found.ensures ∙ c.in-Rule.is)
 
 pub loop-at-init : goal.loop-at-init
-loop-at-init c = let start = c in
-    let over = never-over start.requires.0.reads.holds in (
+loop-at-init c = let over = never-over c.requires.0.reads.holds in (
       omega arith,
       omega arith,
       refl,
-      looking_start start.args.sheet.now start.args.from start.args.before start.args.tail.now start.args.ends.now
-          start.requires.1.1,
+      looking_start c.args.sheet.now c.args.from c.args.before c.args.tail.now c.args.ends.now
+          c.requires.1.1,
     )
 
 pub overflow_add-number : goal.overflow_add-number
@@ -56,9 +54,8 @@ pub slice_bounds-note-end : goal.slice_bounds-note-end
 slice_bounds-note-end c = let facts = (rule-of (goal.at.slice_bounds-note-end c).In-Rule (state-of (goal.at.slice_bounds-note-end c).At-loop-at)).facts in omega (arith, facts.replacement_ahead, facts.inside)
 
 pub note-requires : goal.note-requires
-note-requires c = let known = c in
-    let facts = (rule-of (goal.at.note-requires c).In-Rule (state-of (goal.at.note-requires c).At-loop-at)).facts in
-    let short = known.requires.1.0 in
+note-requires c = let facts = (rule-of (goal.at.note-requires c).In-Rule (state-of (goal.at.note-requires c).At-loop-at)).facts in
+    let short = c.requires.1.0 in
     omega (arith, facts.replacement_ahead, facts.inside)
 
 pub loop-at-smaller : goal.loop-at-smaller
@@ -66,19 +63,17 @@ loop-at-smaller c = let next = rule-of (goal.at.loop-at-smaller c).In-Rule (stat
     omega (arith, next.forward, next.facts.inside)
 
 pub loop-at-preserved : goal.loop-at-preserved
-loop-at-preserved c = let known = c in
-    let looped = known in
-    let next = rule-of (goal.at.loop-at-preserved c).In-Rule (state-of (goal.at.loop-at-preserved c).At-loop-at) in
+loop-at-preserved c = let next = rule-of (goal.at.loop-at-preserved c).In-Rule (state-of (goal.at.loop-at-preserved c).At-loop-at) in
     let noted = c.note in
     let first = c.first_with-rule.ensures in
-    let here = sym known.pass-found.ensures ∙ known.in-Rule.is in
-    let zeros = ap length looped.requires.1.1 in (
+    let here = sym c.pass-found.ensures ∙ c.in-Rule.is in
+    let zeros = ap length c.requires.1.1 in (
       next.facts.inside,
-      rule_small _ _ _ _ first looped.loop-at.invariant.1 (omega (arith, next.few)),
-      noted.auto.ends ∙ looped.loop-at.invariant.2,
+      rule_small _ _ _ _ first c.loop-at.invariant.1 (omega (arith, next.few)),
+      noted.auto.ends ∙ c.loop-at.invariant.2,
       λ list reads.
-          let state = looped.loop-at.invariant.3 list reads in
-          looking_rule state (rule_next state.reads.holds here) _ _ first (looped.loop-at.invariant.2 ∙ zeros) noted.ensures,
+          let state = c.loop-at.invariant.3 list reads in
+          looking_rule state (rule_next state.reads.holds here) _ _ first (c.loop-at.invariant.2 ∙ zeros) noted.ensures,
     )
 
 pub shape_of-ends-in-Group : goal.shape_of-ends-in-Group
@@ -99,8 +94,7 @@ pub shape_of-ends-in-Faulty : goal.shape_of-ends-in-Faulty
 shape_of-ends-in-Faulty c = c.loop-at.invariant.2
 
 pub returns-in-Faulty : goal.returns-in-Faulty
-returns-in-Faulty c = let looped = c in
-    absurd (never-alone (state-of (goal.at.returns-in-Faulty c).At-loop-at).reads.holds (sym c.pass-found.ensures ∙ c.in-Faulty.is))
+returns-in-Faulty c = absurd (never-alone (state-of (goal.at.returns-in-Faulty c).At-loop-at).reads.holds (sym c.pass-found.ensures ∙ c.in-Faulty.is))
 
 pub shape_of-ends : goal.shape_of-ends
 shape_of-ends c = c.loop-at.invariant.2

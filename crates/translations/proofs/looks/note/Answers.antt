@@ -17,33 +17,22 @@ returns-then-ending-long c = let a = c.args in
     noted_short a.ending.now a.end a.tail.now a.ends.now c.if-ending-long.true
 
 pub returns-then-not-ends_with : goal.returns-then-not-ends_with
-returns-then-not-ends_with c = let longer = c in
-    let a = longer.args in
-    noted_other a.ending.now a.end a.tail.now a.ends.now longer.if-ending-long.false
+returns-then-not-ends_with c = let a = c.args in
+    noted_other a.ending.now a.end a.tail.now a.ends.now c.if-ending-long.false
     (sym c.ends_with.ensures ∙ not-true _ c.if-not-ends_with.true-raw)
 
 pub returns-then-letter-lt97 : goal.returns-then-letter-lt97
-returns-then-letter-lt97 c = let ends = c in
-    let longer = ends in
-    let a = longer.args in
-    noted_low a.ending.now a.end a.tail.now a.ends.now longer.if-ending-long.false (ends_of (goal.at.returns-then-letter-lt97 c).Else-not-ends_with) _ c.wide-letter.ensures.value
+returns-then-letter-lt97 c = let a = c.args in
+    noted_low a.ending.now a.end a.tail.now a.ends.now c.if-ending-long.false (ends_of (goal.at.returns-then-letter-lt97 c).Else-not-ends_with) _ c.wide-letter.ensures.value
     c.if-letter-lt97.true
 
 pub returns-then-number_at-eq0 : goal.returns-then-number_at-eq0
-returns-then-number_at-eq0 c = let read = c in
-    let high = read in
-    let ends = high in
-    let longer = ends in
-    let a = longer.args in
-    noted_new a.ending.now a.end a.tail.now a.ends.now longer.if-ending-long.false (ends_of (goal.at.returns-then-number_at-eq0 c).Else-not-ends_with) _ high.wide-letter.ensures.value
-    _ refl high.if-letter-lt97.false (sym read.number_at.ensures.0 ∙ c.if-number_at-eq0.true) _
+returns-then-number_at-eq0 c = let a = c.args in
+    noted_new a.ending.now a.end a.tail.now a.ends.now c.if-ending-long.false (ends_of (goal.at.returns-then-number_at-eq0 c).Else-not-ends_with) _ c.wide-letter.ensures.value
+    _ refl c.if-letter-lt97.false (sym c.number_at.ensures.0 ∙ c.if-number_at-eq0.true) _
     c.put.ensures
 
 pub returns-else-number_at-eq0 : goal.returns-else-number_at-eq0
-returns-else-number_at-eq0 c = let read = c in
-    let high = read in
-    let ends = high in
-    let longer = ends in
-    let a = longer.args in
-    noted_kept a.ending.now a.end a.tail.now a.ends.now longer.if-ending-long.false (ends_of (goal.at.returns-else-number_at-eq0 c).Else-not-ends_with) _ high.wide-letter.ensures.value
-    _ refl high.if-letter-lt97.false (λ free. c.if-number_at-eq0.false (read.number_at.ensures.0 ∙ free))
+returns-else-number_at-eq0 c = let a = c.args in
+    noted_kept a.ending.now a.end a.tail.now a.ends.now c.if-ending-long.false (ends_of (goal.at.returns-else-number_at-eq0 c).Else-not-ends_with) _ c.wide-letter.ensures.value
+    _ refl c.if-letter-lt97.false (λ free. c.if-number_at-eq0.false (c.number_at.ensures.0 ∙ free))

@@ -25,10 +25,9 @@ pub loop-k-smaller-then-end-ne0 : goal.loop-k-smaller-then-end-ne0
 loop-k-smaller-then-end-ne0 c = let inside = c.loop-k-test.true in omega arith
 
 pub loop-k-preserved-then-end-ne0 : goal.loop-k-preserved-then-end-ne0
-loop-k-preserved-then-end-ne0 c = let read = c in
-    let turn = read.loop-k in
-    let inside = read.loop-k-test.true in
-    let end_is = read.number_at-end.ensures.0 in
+loop-k-preserved-then-end-ne0 c = let turn = c.loop-k in
+    let inside = c.loop-k-test.true in
+    let end_is = c.number_at-end.ensures.0 in
     let put = each_put _ _ _ _ _ inside turn.at turn.table (λ none. c.if-end-ne0.true (end_is ∙ none)) in
     let row = rw end_is at c.put_row.ensures in (
       rw row (sym put.0 ∙ turn.invariant.0),

@@ -3,9 +3,5 @@ use Rattle.translations.specs.StoreLaws.{row_stores}
 use Rattle.translations.proofs.rows.put_row.Goals as goal
 
 pub returns : goal.returns
-returns c = let after-four = c in
-    let after-three = after-four in
-    let after_two = after-three in
-    let after_one = after_two in
-    row_stores _ _ _ _ _ _ _ _ _ _ after_one.put.ensures after_two.put-2.ensures after-three.put-3.ensures
-    after-four.put-4.ensures
+returns c = row_stores _ _ _ _ _ _ _ _ _ _ c.put.ensures c.put-2.ensures c.put-3.ensures
+    c.put-4.ensures
