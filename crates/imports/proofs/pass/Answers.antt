@@ -94,11 +94,10 @@ pub loop-at-smaller-in-Group : goal.loop-at-smaller-in-Group
 loop-at-smaller-in-Group c = omega (arith, beyond-group (goal.at.loop-at-smaller-in-Group c).In-Group (group (goal.at.loop-at-smaller-in-Group c).In-Group (found (goal.at.loop-at-smaller-in-Group c).After-line)))
 
 pub loop-at-preserved-in-Group : goal.loop-at-preserved-in-Group
-loop-at-preserved-in-Group c = let placed = sym c.misplaced_group.ensures ∙ c.if-misplaced_group.false in
-    (
-      (beyond-group (goal.at.loop-at-preserved-in-Group c).In-Group (group (goal.at.loop-at-preserved-in-Group c).In-Group (found (goal.at.loop-at-preserved-in-Group c).After-line))).1,
-      rw c.put_group-size.ensures.value (after_group c.loop-at.invariant.1 _ _ (group (goal.at.loop-at-preserved-in-Group c).In-Group (found (goal.at.loop-at-preserved-in-Group c).After-line)) placed c.put_group-size.ensures.appends),
-    )
+loop-at-preserved-in-Group c = let placed = sym c.misplaced_group.ensures ∙ c.if-misplaced_group.false in (
+  (beyond-group (goal.at.loop-at-preserved-in-Group c).In-Group (group (goal.at.loop-at-preserved-in-Group c).In-Group (found (goal.at.loop-at-preserved-in-Group c).After-line))).1,
+  rw c.put_group-size.ensures.value (after_group c.loop-at.invariant.1 _ _ (group (goal.at.loop-at-preserved-in-Group c).In-Group (found (goal.at.loop-at-preserved-in-Group c).After-line)) placed c.put_group-size.ensures.appends),
+)
 
 pub faulty_body-requires : goal.faulty_body-requires
 faulty_body-requires c = rw to_the_end (rule_line c.loop-at.invariant.1 _ (rule (goal.at.faulty_body-requires c).In-Rule (found (goal.at.faulty_body-requires c).After-line)))

@@ -63,12 +63,12 @@ slice_bounds-put-end c = (obeyed-of (goal.at.slice_bounds-put-end c).Else-start-
 
 pub overflow_add-result : goal.overflow_add-result
 overflow_add-result c = omega (
-      arith,
-      c.if-word-part.false,
-      c.less-part.ensures,
-      c.requires.1.1.1.1,
-      c.type_inv.word,
-    )
+  arith,
+  c.if-word-part.false,
+  c.less-part.ensures,
+  c.requires.1.1.1.1,
+  c.type_inv.word,
+)
 
 pub returns : goal.returns
 returns c = let part = c.less-part.ensures in

@@ -66,12 +66,12 @@ look-rule-requires c = let now = node_of (goal.at.look-rule-requires c).After-nu
 
 pub put_each-behind-requires : goal.put_each-behind-requires
 put_each-behind-requires c = let there = (node_of (goal.at.put_each-behind-requires c).After-number_at-before).pending in (
-      omega (arith, midway_small c.requires.1.1 c.requires.1.0, c.look-rule.auto.ends),
-      (
-        omega (arith, there.depth_is, there.tail_there.long, there.tail_there.inside, short-of (goal.at.put_each-behind-requires c).After-number_at-before),
-        (c.number_at-from.ensures.1, c.number_at-before.ensures.1),
-      ),
-    )
+  omega (arith, midway_small c.requires.1.1 c.requires.1.0, c.look-rule.auto.ends),
+  (
+    omega (arith, there.depth_is, there.tail_there.long, there.tail_there.inside, short-of (goal.at.put_each-behind-requires c).After-number_at-before),
+    (c.number_at-from.ensures.1, c.number_at-before.ensures.1),
+  ),
+)
 
 pub put_row-requires : goal.put_row-requires
 put_row-requires c = let looked = c.look-rule in

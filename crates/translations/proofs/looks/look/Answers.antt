@@ -25,12 +25,12 @@ rule-of c known_state-of =
 
 pub loop-at-init : goal.loop-at-init
 loop-at-init c = let over = never-over c.requires.0.reads.holds in (
-      omega arith,
-      omega arith,
-      refl,
-      looking_start c.args.sheet.now c.args.from c.args.before c.args.tail.now c.args.ends.now
-          c.requires.1.1,
-    )
+  omega arith,
+  omega arith,
+  refl,
+  looking_start c.args.sheet.now c.args.from c.args.before c.args.tail.now c.args.ends.now
+      c.requires.1.1,
+)
 
 pub overflow_add-number : goal.overflow_add-number
 overflow_add-number c = let few = (rule-of (goal.at.overflow_add-number c).In-Rule (state-of (goal.at.overflow_add-number c).At-loop-at)).few in omega arith
