@@ -1,6 +1,5 @@
 -- `readings::read` meets its contract: a word that is taken is noted and read; any other is as it came.
 use Prim.Native.Nat.{ℕ, ◌≤◌, ◌<◌}
-use borrow.Author.Rules.{rules}
 use borrow.Author.Tests.{lt-ltb, le-leb, ltb-false}
 use native.Mathlib.Omega.{arith}
 use mathlib.Core.Path.{◌≡◌, refl, sym, ap, ◌∙◌}
@@ -16,8 +15,8 @@ use Rattle.paper.specs.Words.{taken, turned_down, judged, judged_by, first_other
 use Rattle.paper.specs.WordsLaws.{judged_by_lem}
 use Rattle.paper.specs.Noted.{states_of, states_after, Noted, length_after, noted_more}
 use Rattle.letters.specs.Notes.{noted}
-use Rattle.readings.proofs.read.Statement.{statement}
-use Rattle.readings.proofs.read.Tie as tie
+use Rattle.readings.proofs.read.Goals as goal
+use Rattle.readings.proofs.read.Goals.{Else-word-other}
 
 -- the test before the reading is that of the word
 refuses : (size other : ℕ) → (eqb size 0 || (ltb 64 size || ltb other size)) ≡ true → taken ≡ judged_by size other → ⊥
@@ -54,50 +53,41 @@ notes word states after first room short all is =
     (noted_more [] word states 0 first refl (omega arith))
 
 -- once the test is passed
-module _ (c : tie.After-states3) where
-  abbrev s : tie.Start
-  s = c.before.before.before.before.before.before.before.before
-
-  abbrev word : List ℕ
-  word = s.args.word.now
-
-  passed : (taken ≡ judged word) × ((length word ≤ 64) × (length word ≤ first_other word))
+module _ (c : Else-word-other) where
+  passed : (taken ≡ judged c.args.word.now)
+      × ((length c.args.word.now ≤ 64) × (length c.args.word.now ≤ first_other c.args.word.now))
   passed =
-      let found = c.before.before.before.before.note.ensures.0 in
-      let says = takes (length word) _ c.before.before.if1.false in
+      let word = c.args.word.now in
+      let found = c.note-other.ensures.value in
+      let says = takes (length word) _ c.if-word-other.false in
       (says.0 ∙ ap (judged_by (length word)) found ∙ judged_by_lem word, (says.1.0, omega (arith, says.1.1, found)))
 
-returns : tie.Need-returns
-returns c =
-    let word = c.before.before.before.before.before.before.args.word.now in
-    let found = c.before.before.note.ensures.0 in (
-      found,
-      (
-        λ is-taken. absurd (refuses (length word) _ c.if1.true (is-taken ∙ sym (ap (judged_by (length word)) found ∙ judged_by_lem word))),
-        λ other. refl,
-      ),
-    )
+pub returns-then-word-other : goal.returns-then-word-other
+returns-then-word-other c =
+    let word = c.args.word.now in
+    let found = c.note-other.ensures.value in
+    record {
+      other_value = found;
+      read_stands = λ is-taken. absurd (refuses (length word) _ c.if-word-other.true (is-taken ∙ sym (ap (judged_by (length word)) found ∙ judged_by_lem word)));
+      word_unchanged = λ other. refl;
+    }
 
-read-by-requires : tie.Need-read-by-requires
-read-by-requires c κs =
-    let made = c.before.before.before.before.note in
-    let at_most = (passed c).1 in
+pub read_by-len-requires : goal.read_by-len-requires
+read_by-len-requires c =
+    let made = c.note-other in
+    let at_most = (passed (goal.at.read_by-len-requires c).Else-word-other).1 in
     record {
       within = omega arith;
       short = at_most.0;
-      room = made.auto.1.0;
-      noted = notes (word c) _ _ refl (omega (arith, at_most.0)) at_most.0 at_most.1 made.ensures.1;
+      room = made.auto.states;
+      noted = notes c.args.word.now _ _ refl (omega (arith, at_most.0)) at_most.0 at_most.1 made.ensures.states_after;
     }
 
-returns-2 : tie.Need-returns-2
-returns-2 c =
-    let noted = c.before.before.before.before.before.before.before.before.note in
-    let ran = c.before.before.before.read_by in
-    let was-taken = (passed c.before.before.before.before).0 in
-    (noted.ensures.0, (λ is-taken. ran.ensures, λ other. absurd (other was-taken)))
-
-pub read_spec : {M : Type 1} → statement M
-read_spec =
-    tie.close
-    (tie.spec (λ c. search rules) (λ c κs. search rules) (λ c. search rules) returns (λ c. search rules) read-by-requires
-    (λ c. search rules) returns-2)
+pub returns : goal.returns
+returns c =
+    let was-taken = (passed (goal.at.returns c).Else-word-other).0 in
+    record {
+      other_value = c.note-other.ensures.value;
+      read_stands = λ is-taken. c.read_by-len.ensures;
+      word_unchanged = λ other. absurd (other was-taken);
+    }

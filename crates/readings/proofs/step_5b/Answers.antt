@@ -1,5 +1,4 @@
 -- `readings::step_5b` meets its contract: its one rule has the empty ending, and its condition asks for an l.
-use borrow.Author.Rules.{rules}
 use borrow.Author.Tests.{ne_eqb}
 use native.Mathlib.Omega.{arith}
 use Prim.Native.Nat.{ℕ, ◌-◌}
@@ -19,8 +18,7 @@ use Rattle.rules.specs.Rows.{rows_of}
 use Rattle.groups.specs.ReadsLaws.{kept_whole}
 use Rattle.readings.proofs.Narrow.{whole}
 use Rattle.readings.proofs.Tests.{reads_5b, cuts_5b}
-use Rattle.readings.proofs.step_5b.Statement.{statement}
-use Rattle.readings.proofs.step_5b.Tie as tie
+use Rattle.readings.proofs.step_5b.Goals as goal
 
 other_letter : (word : List ℕ) → (letter_at 0 word ≡ 108 → ⊥) → obeyed word group_5b ≡ none
 unfolding holds conditions last_is before single group_5b
@@ -29,15 +27,9 @@ other_letter word other =
     decided word group_5b 0 (reads_5b (rows_of group_5b) refl).one (omega arith) (none_yet (rule_of group_5b) word) (ends_empty word)
     ∙ rw (all, take-length word, ne_eqb _ 108 other, and-false, and-false)
 
-returns : tie.Need-returns
-returns c = kept_whole group_5b _ (other_letter _ (rw (← c.before.letter_at.ensures) c.if1.true))
+pub returns-then-letter_at-ne108 : goal.returns-then-letter_at-ne108
+returns-then-letter_at-ne108 c = kept_whole group_5b _ (other_letter _ (rw (← c.letter_at.ensures) c.if-letter_at-ne108.true))
 
-returns-2 : tie.Need-returns-2
-returns-2 c =
-    let g = c.before.before in
-    (c.cut_by.ensures group_5b g.before.before.before.before.before.requires (whole (reads_5b _ g.group-5b.ensures)) cuts_5b).cut
-
-pub step-5b-spec : {M : Type 1} → statement M
-step-5b-spec =
-    tie.close
-    (tie.spec (λ c κs. search rules) returns (λ c κs. search rules) (λ c. search rules) (λ c κs. search rules) returns-2)
+pub returns : goal.returns
+returns c = let g = c in
+    (c.cut_by-left.ensures group_5b g.requires (whole (reads_5b _ g.group_5b-rules.ensures)) cuts_5b).cut
