@@ -15,8 +15,7 @@ told : (list : List ℕ) (at : ℕ) {result item : Item} → result ≡ item_at 
 told list at ensures is = subst (Says list at) (sym ensures ∙ is) (item_says list at)
 
 word_of : (c : In-Word)
-    → (let turn = c in
-    EntryAt turn.args.list.now turn.loop-at.at c.in-Word.next)
+    → (EntryAt c.args.list.now c.loop-at.at c.in-Word.next)
 word_of c = told _ _ c.item_at-item.ensures c.in-Word.is
 
 pub loop-at-init : goal.loop-at-init

@@ -65,7 +65,5 @@ pub returns-then-n-size : goal.returns-then-n-size
 returns-then-n-size c = refuse _ (λ s. omega (arith, s.is.no_more, s.word_size, s.stem_size, c.wide-n.ensures.value, c.if-n-size.true))
 
 pub returns : goal.returns
-returns c = let four = c in
-    let three = four in
-    judged _ three.wide-n.ensures.value three.if-n-gt64.false three.if-size-n.false four.if-n-size.false
+returns c = judged _ c.wide-n.ensures.value c.if-n-gt64.false c.if-size-n.false c.if-n-size.false
     c.first_other.ensures

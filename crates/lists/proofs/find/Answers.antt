@@ -12,6 +12,5 @@ returns-in-Refused c = let refused = by_refused _ (ap says_list (sym c.in-Refuse
 
 pub returns-in-Accepted : goal.returns-in-Accepted
 unfolding found
-returns-in-Accepted c = let told = c in
-    let accepted = by_accepted _ (ap says_list (sym told.in-Accepted.is) ∙ told.check-judged.ensures) in
+returns-in-Accepted c = let accepted = by_accepted _ (ap says_list (sym c.in-Accepted.is) ∙ c.check-judged.ensures) in
     rw accepted.1 c.search.ensures

@@ -57,19 +57,16 @@ pub slice_bounds-faulty_entry-end : goal.slice_bounds-faulty_entry-end
 slice_bounds-faulty_entry-end c = (frame-of (goal.at.slice_bounds-faulty_entry-end c).In-Whole).inside
 
 pub returns-then-faulty_entry : goal.returns-then-faulty_entry
-returns-then-faulty_entry c = let kind = c in
-    word_here _ _ (frame-of (goal.at.returns-then-faulty_entry c).In-Whole) kind.if-kind-eq4.true (sym c.if-faulty_entry.true ∙ c.faulty_entry.ensures)
+returns-then-faulty_entry c = word_here _ _ (frame-of (goal.at.returns-then-faulty_entry c).In-Whole) c.if-kind-eq4.true (sym c.if-faulty_entry.true ∙ c.faulty_entry.ensures)
 
 pub returns-then-kind-eq4 : goal.returns-then-kind-eq4
-returns-then-kind-eq4 c = let kind = c in
-    word_here _ _ (frame-of (goal.at.returns-then-kind-eq4 c).In-Whole) kind.if-kind-eq4.true (sym c.if-faulty_entry.false ∙ c.faulty_entry.ensures)
+returns-then-kind-eq4 c = word_here _ _ (frame-of (goal.at.returns-then-kind-eq4 c).In-Whole) c.if-kind-eq4.true (sym c.if-faulty_entry.false ∙ c.faulty_entry.ensures)
 
 pub returns-then-kind-ne3 : goal.returns-then-kind-ne3
 returns-then-kind-ne3 c = other_here _ _ (frame-of (goal.at.returns-then-kind-ne3 c).In-Whole) c.if-kind-eq4.false c.if-kind-ne3.true
 
 pub returns-then-faulty_end : goal.returns-then-faulty_end
-returns-then-faulty_end c = let kind = c in
-    close_here _ _ (frame-of (goal.at.returns-then-faulty_end c).In-Whole) kind.if-kind-ne3.false (sym c.if-faulty_end.true ∙ c.faulty_end.ensures)
+returns-then-faulty_end c = close_here _ _ (frame-of (goal.at.returns-then-faulty_end c).In-Whole) c.if-kind-ne3.false (sym c.if-faulty_end.true ∙ c.faulty_end.ensures)
 
 pub returns-in-Cut : goal.returns-in-Cut
 returns-in-Cut c = let args = c.args in
@@ -77,5 +74,4 @@ returns-in-Cut c = let args = c.args in
     (framed args.list.now args.at Cut (sym c.frame_at-frame.ensures ∙ c.in-Cut.is))
 
 pub returns-else-faulty_end : goal.returns-else-faulty_end
-returns-else-faulty_end c = let kind = c in
-    close_here _ _ (frame-of (goal.at.returns-else-faulty_end c).In-Whole) kind.if-kind-ne3.false (sym c.if-faulty_end.false ∙ c.faulty_end.ensures)
+returns-else-faulty_end c = close_here _ _ (frame-of (goal.at.returns-else-faulty_end c).In-Whole) c.if-kind-ne3.false (sym c.if-faulty_end.false ∙ c.faulty_end.ensures)
