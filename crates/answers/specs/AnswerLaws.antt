@@ -19,9 +19,9 @@ use Rattle.answers.specs.declared.Translated.TheVariants.{Nodes, Refused as Untr
 use Rattle.answers.specs.declared.Ran.{Ran}
 use Rattle.answers.specs.declared.Ran.TheVariants.{Word, Refused as Unread, Table}
 use Rattle.answers.specs.declared.ListChecked.{ListChecked}
-use Rattle.answers.specs.declared.ListChecked.TheVariants.{Accepted as Taken-in, Refused as Faulty-list}
+use Rattle.answers.specs.declared.ListChecked.TheVariants.{Accepted as TakenIn, Refused as FaultyList}
 use Rattle.answers.specs.declared.ListedWord.{ListedWord}
-use Rattle.answers.specs.declared.ListedWord.TheVariants.{Word as Of-word, Refused as No-word}
+use Rattle.answers.specs.declared.ListedWord.TheVariants.{Word as OfWord, Refused as NoWord}
 use Rattle.answers.specs.declared.VocabularyChecked.{VocabularyChecked}
 use Rattle.answers.specs.declared.VocabularyChecked.TheVariants.{FirstWrong, Line as Misformed}
 
@@ -112,26 +112,26 @@ runs = record { number = number_of_ran; value = value_of_ran; back = ran_of; bac
 -- ## An exception list, and a word with one
 
 unfoldable list_said : Said → ListChecked
-list_said said = cond (eqb said.number 0) (Taken-in said.value) (Faulty-list said.value)
+list_said said = cond (eqb said.number 0) (TakenIn said.value) (FaultyList said.value)
 
 list_is : (answer : ListChecked) → list_said (says_list answer) ≡ answer
 unfolding list_said
-list_is (Taken-in count) = refl
-list_is (Faulty-list place) = refl
+list_is (TakenIn count) = refl
+list_is (FaultyList place) = refl
 
 pub list_one : {said : Said} (one other : ListChecked) → says_list one ≡ said → says_list other ≡ said → one ≡ other
 list_one one other is also = sym (list_is one) ∙ ap list_said (settled is also) ∙ list_is other
 
 unfoldable pub listed_of : ℕ → ℕ → ListedWord
-listed_of number value = cond (eqb number 10) (No-word value) (Of-word (answer_of number value))
+listed_of number value = cond (eqb number 10) (NoWord value) (OfWord (answer_of number value))
 
 pub listed_is : (answer : ListedWord) → listed_of (number_of_listed answer) (value_of_listed answer) ≡ answer
 unfolding listed_of answer_of
-listed_is (Of-word (Done size)) = refl
-listed_is (Of-word WrongLength) = refl
-listed_is (Of-word (OtherByte place)) = refl
-listed_is (Of-word Outgrown) = refl
-listed_is (No-word place) = refl
+listed_is (OfWord (Done size)) = refl
+listed_is (OfWord WrongLength) = refl
+listed_is (OfWord (OtherByte place)) = refl
+listed_is (OfWord Outgrown) = refl
+listed_is (NoWord place) = refl
 
 abbrev pub listed_words : Told ListedWord
 listed_words = record { number = number_of_listed; value = value_of_listed; back = listed_of; back_is = listed_is }

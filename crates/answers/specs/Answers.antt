@@ -16,11 +16,11 @@ use Rattle.answers.specs.declared.Translated.TheVariants.{Nodes, Refused as Untr
 use Rattle.answers.specs.declared.Ran.{Ran}
 use Rattle.answers.specs.declared.Ran.TheVariants.{Word, Refused as Unread, Table}
 use Rattle.answers.specs.declared.ListChecked.{ListChecked}
-use Rattle.answers.specs.declared.ListChecked.TheVariants.{Accepted as Taken-in, Refused as Faulty-list}
+use Rattle.answers.specs.declared.ListChecked.TheVariants.{Accepted as TakenIn, Refused as FaultyList}
 use Rattle.answers.specs.declared.ListedWord.{ListedWord}
-use Rattle.answers.specs.declared.ListedWord.TheVariants.{Word as Of-word, Refused as No-word}
+use Rattle.answers.specs.declared.ListedWord.TheVariants.{Word as OfWord, Refused as NoWord}
 use Rattle.answers.specs.declared.ListedText.{ListedText}
-use Rattle.answers.specs.declared.ListedText.TheVariants.{Text as Of-text, Refused as No-text}
+use Rattle.answers.specs.declared.ListedText.TheVariants.{Text as OfText, Refused as NoText}
 use Rattle.answers.specs.declared.VocabularyChecked.{VocabularyChecked}
 use Rattle.answers.specs.declared.VocabularyChecked.TheVariants.{FirstWrong, Line as Misformed}
 
@@ -129,30 +129,30 @@ pub record Said : Type 0 where
 
 -- document 02, W-205: "10, a faulty list, with the offset of its first faulty record (and 0 in a text)"; 0 with how many records it has
 abbrev pub says_list : ListChecked → Said
-says_list (Taken-in count) = record { number = 0; value = count }
-says_list (Faulty-list place) = record { number = 10; value = place }
+says_list (TakenIn count) = record { number = 0; value = count }
+says_list (FaultyList place) = record { number = 10; value = place }
 
 -- ## A word, and a text, with one
 
 abbrev pub number_of_listed : ListedWord → ℕ
-number_of_listed (Of-word answer) = number_of answer
-number_of_listed (No-word place) = 10
+number_of_listed (OfWord answer) = number_of answer
+number_of_listed (NoWord place) = 10
 
 abbrev pub value_of_listed : ListedWord → ℕ
-value_of_listed (Of-word answer) = value_of answer
-value_of_listed (No-word place) = place
+value_of_listed (OfWord answer) = value_of answer
+value_of_listed (NoWord place) = place
 
 abbrev pub number_of_listed_text : ListedText → ℕ
-number_of_listed_text (Of-text answer) = number_of_text answer
-number_of_listed_text (No-text place) = 10
+number_of_listed_text (OfText answer) = number_of_text answer
+number_of_listed_text (NoText place) = 10
 
 abbrev pub stemmed_of_listed : ListedText → ℕ
-stemmed_of_listed (Of-text answer) = stemmed_of answer
-stemmed_of_listed (No-text place) = place
+stemmed_of_listed (OfText answer) = stemmed_of answer
+stemmed_of_listed (NoText place) = place
 
 abbrev pub left_of_listed : ListedText → ℕ
-left_of_listed (Of-text answer) = left_of answer
-left_of_listed (No-text place) = 0
+left_of_listed (OfText answer) = left_of answer
+left_of_listed (NoText place) = 0
 
 -- ## A supplier's vocabulary
 

@@ -53,11 +53,11 @@ module _ (rules : List Rule) (index : List Entry) (kept : keeps rules index ≡ 
 -- ## A letter that is not in the index
 
 -- a letter is none of these, as a match leaves it
-abbrev pub None-of : ℕ → List ℕ → Type 0
-None-of letter [] = Unit {0}
-None-of letter (one ∷ others) = None-of letter others × (letter ≡ one → ⊥)
+abbrev pub NoneOf : ℕ → List ℕ → Type 0
+NoneOf letter [] = Unit {0}
+NoneOf letter (one ∷ others) = NoneOf letter others × (letter ≡ one → ⊥)
 
-not_among : (letter : ℕ) (others : List ℕ) → None-of letter others → among letter others ≡ false
+not_among : (letter : ℕ) (others : List ℕ) → NoneOf letter others → among letter others ≡ false
 unfolding among
 not_among letter [] differs = refl
 not_among letter (one ∷ others) differs = rw (ne_eqb letter one differs.1, not_among letter others differs.0)
@@ -72,7 +72,7 @@ pub other_named :
     (letters : List ℕ) (index : List Entry)
     → only_these letters index ≡ true
     → (letter from to thirds : ℕ)
-    → None-of letter letters
+    → NoneOf letter letters
     → names index letter from to 0 thirds ≡ true
 unfolding names only_these block_at
 other_named letters [] all letter from to thirds other = refl

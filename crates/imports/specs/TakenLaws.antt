@@ -8,7 +8,7 @@ use Rattle.paper.specs.Conditions.{highest}
 use Rattle.paper.specs.Groups.{Rule, Gate, written}
 use Rattle.paper.specs.TestLaws.{and_parts}
 use Rattle.paper.specs.Words.{all_small}
-use Rattle.records.specs.Framing.{body, record_of}
+use Rattle.records.specs.Framing.{record_of}
 use Rattle.records.specs.FramingLaws.{whole_read, kind_read, body_read}
 use Rattle.records.specs.Records.{faulty_rule, faulty_alone}
 use Rattle.records.specs.RecordBytes.{gate_body, rule_body}

@@ -13,7 +13,7 @@ use Rattle.paper.specs.TestLaws.{by_test}
 use Rattle.paths.specs.Children.{child_count, first_rule, sought, child, nodes_in}
 use Rattle.walks.specs.Walk.{Nodes, onward, reached, held}
 use Rattle.walks.specs.Faithful.{exists, leads, FaithfulGroup, FaithfulFrom}
-use Rattle.walks.specs.Ends.{Node, node}
+use Rattle.walks.specs.Ends.{Node}
 use Rattle.walks.specs.EndsLaws.{First, FirstFrom}
 use Rattle.forests.specs.Forest.{Forest}
 use Rattle.forests.specs.ForestPaths.{a_path}

@@ -2,7 +2,7 @@
 use Rattle.std.specs.Prelude.{ℕ, suc, ◌+◌, ◌*◌, ◌≤◌, ◌<◌, ◌≡◌, true, false, ◌↔◌, List, [], ◌∷◌, leb, length, take}
 use Rattle.std.proofs.Common.{sym, ◌∙◌, arith, lit<, length-take, length-take-le, leb-true, leb-false}
 use Rattle.std.proofs.Math.Path.{ap}
-use Rattle.paper.specs.Groups.{Group, same}
+use Rattle.paper.specs.Groups.{Group}
 use Rattle.paper.specs.GroupsLaws.{same_equal, same_itself}
 use Rattle.paper.specs.Nodes.{node_count}
 use Rattle.paper.specs.TestLaws.{by_test}

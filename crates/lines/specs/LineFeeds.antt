@@ -1,5 +1,5 @@
 -- No line feed stands in a printed line, so lines are counted by line feeds.
-use Rattle.std.specs.Prelude.{ℕ, zero, suc, ◌-◌, ◌<◌, ◌≡◌, refl, Bool, true, false, cond, ◌&&◌, List, [], ◌∷◌, ltb, length}
+use Rattle.std.specs.Prelude.{ℕ, zero, suc, ◌<◌, ◌≡◌, refl, Bool, true, false, cond, ◌&&◌, List, [], ◌∷◌, ltb, length}
 use Rattle.std.proofs.Common.{arith, ltb-true}
 use Rattle.paper.specs.Letters.{letters}
 use Rattle.paper.specs.Groups.{Action, replace, single_letter, written, always, if_opened}

@@ -11,7 +11,7 @@ use parts::{Close, Head, Part, read_close, read_head, read_part, starts};
 
 // A rule's line, by places in the bytes that begin with it: its ending stands from `start` to `middle`, its replacement from `from` to
 // `end`, and the next line begins at `taken`.
-#[derive(Drop)]
+#[derive(Clone, Copy)]
 pub struct RuleLine {
     pub condition: u8,
     pub action: u8,

@@ -6,7 +6,8 @@ use Rattle.std.proofs.Common.{sym, ◌∙◌, arith}
 use Rattle.std.proofs.Math.Option.{none, some}
 use Rattle.paper.specs.Groups.{Reading, done, outgrown}
 use Rattle.paper.specs.ReadingLaws.{every}
-use Rattle.paper.specs.LengthLaws.{Stems, stem_done}
+use Rattle.paper.specs.LengthLaws.{Stems}
+use Rattle.paper.proofs.ShippedLaws.{stem_done}
 use Rattle.paper.specs.Shipped.{shipped}
 use Rattle.paper.specs.Words.{stem, placed, taken, turned_down, Judgement, judged}
 use Rattle.paper.specs.Words.{Outcome, refused, reading_outcome, judged_outcome, word_outcome}

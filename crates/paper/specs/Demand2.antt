@@ -1,42 +1,26 @@
 -- Demand 2 for words, with W-201: every word of 1 to 64 small letters is done, its place afterwards holds its stem and then spaces,
 -- and the value returned is the stem's length; the stem of one or two letters is the word itself, that of more letters is what the
 -- shipped rules leave. And what holds of every call, by any word rule that never lengthens a word: its numbers are small.
-use Rattle.std.specs.Prelude.{ℕ, ◌≤◌, ◌≡◌, true, List, eqb, length}
-use Rattle.std.proofs.Common.{arith, sym, ap, ◌∙◌, length-append}
+use Rattle.std.specs.Prelude.{ℕ, ◌≤◌, ◌≡◌, List, eqb, length}
+use Rattle.std.proofs.Common.{arith, length-append}
 use Rattle.std.proofs.Math.Path.{refl}
 use Rattle.std.proofs.lemmas.List.{length-replicate}
 use borrow.Author.Tests.{ltb-false}
 use Rattle.paper.specs.Groups.{Reading, done, outgrown}
 use Rattle.paper.specs.TestLaws.{by_test, neither_right}
-use Rattle.paper.specs.LengthLaws.{NeverLengthens, stem_done}
+use Rattle.paper.specs.LengthLaws.{NeverLengthens}
 use Rattle.paper.specs.Shipped.{shipped}
 use Rattle.paper.specs.Words.{read_word, stem, placed, wrong_length, all_small, Outcome, outcome}
 use Rattle.paper.specs.Words.{judged, reading_outcome, judged_outcome, word_outcome}
-use Rattle.paper.specs.WordsLaws.{first_inside, judged_taken, outcome_taken, stem_short, stem_longer}
+use Rattle.paper.specs.WordsLaws.{first_inside}
 
 -- what a call on a word of 1 to 64 small letters gives
-pub record Stemmed-to (word stem-of : List ℕ) : Type 0 where
+pub record StemmedTo (word stem-of : List ℕ) : Type 0 where
   pub stems : stem shipped word ≡ done stem-of
   pub short_stays : length word ≤ 2 → stem-of ≡ word
   pub longer_read : 3 ≤ length word → read_word shipped word ≡ done stem-of
   pub shorter : length stem-of ≤ length word
   pub gives : outcome word ≡ record { number = 0; value = length stem-of; place = placed word stem-of }
-
-pub demand_2 :
-    (word : List ℕ) → 1 ≤ length word → length word ≤ 64 → all_small word ≡ true → (stem-of : List ℕ) × Stemmed-to word stem-of
-unfolding reading_outcome
-demand_2 word least most all =
-    let found = stem_done word in
-    let is-taken = sym (judged_taken word (λ none. omega arith) most all) in (
-      found.0,
-      record {
-        stems = found.1;
-        short_stays = λ few. let own : done found.0 ≡ done word = sym found.1 ∙ stem_short shipped word few in cc;
-        longer_read = λ many. sym (stem_longer shipped word many) ∙ found.1;
-        shorter = found.2;
-        gives = outcome_taken (stem shipped) word is-taken ∙ ap (reading_outcome word) found.1;
-      },
-    )
 
 -- ## Every call
 

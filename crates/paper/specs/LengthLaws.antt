@@ -1,5 +1,4 @@
--- When a group's result is no longer than its word, and when no word outgrows its place, over any rule list; and that by the shipped
--- rules every word is done (demand 2).
+-- When a group's result is no longer than its word, and when no word outgrows its place, over any rule list.
 use Rattle.std.specs.Prelude.{ℕ, ◌+◌, ◌≤◌, ◌≡◌, refl, Bool, true, cond, ◌&&◌, List, [], ◌∷◌, map, leb, length}
 use Rattle.std.proofs.Common.{arith, ap, length-append, length-take, le-leb, leb-true, leb-false}
 use Rattle.std.proofs.Math.Bool.{false}
@@ -9,7 +8,6 @@ use Rattle.paper.specs.Groups.{before, obeyed, act, runs, read_turn, result, ope
 use Rattle.paper.specs.TestLaws.{one_if, and_parts, by_test}
 use Rattle.paper.specs.GroupsLaws.{before_length, ending_short}
 use Rattle.paper.specs.ReadingLaws.{every, every_in, obeyed_first}
-use Rattle.paper.specs.Shipped.{shipped}
 use Rattle.paper.specs.Words.{read_word, stem}
 use Rattle.paper.specs.WordsLaws.{stem_short, stem_longer}
 
@@ -123,20 +121,3 @@ module _ (groups : List Group) (is-tame : tame groups ≡ true) where
       by_test (leb (length word) 2)
       (λ few. (word, stem_short groups word (leb-true (length word) 2 few), omega arith))
       (λ many. rw (stem_longer groups word (leb-false (length word) 2 many)) (tame_reads word))
-
--- ## The shipped rules
-
-shipped-tame : tame shipped ≡ true
-unfolding tame every tame_rule shipped
-shipped-tame = refl
-
--- what they leave of a word fits its place
-pub read_done : Stems (read_word shipped)
-read_done = tame_reads shipped shipped-tame
-
--- every word has a stem that fits its place: refusal 4 never comes of the shipped rules
-pub stem_done : Stems (stem shipped)
-stem_done = tame_stems shipped shipped-tame
-
-pub stem_never_lengthens : NeverLengthens (stem shipped)
-stem_never_lengthens = never_lengthens (stem shipped) stem_done

@@ -1,5 +1,5 @@
 -- Of a record that is not faulty by itself, passing tells what judging tells.
-use Rattle.std.specs.Prelude.{ℕ, ◌+◌, ◌≡◌, true, false, List, length, drop}
+use Rattle.std.specs.Prelude.{ℕ, ◌+◌, ◌≡◌, false, List, length, drop}
 use Rattle.std.proofs.Common.{sym, ◌∙◌, true≢false, arith}
 use borrow.Author.Tests.{le-ltb}
 use Rattle.records.specs.Framing.{body}

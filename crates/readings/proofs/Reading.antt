@@ -10,7 +10,7 @@ use Rattle.paper.specs.Groups.{Rule, Gate, always, if_opened, runs, Turn, read_t
 use Rattle.paper.specs.Groups.{reading, through}
 use Rattle.paper.specs.Shipped.{group_1a, group_1b, follow_up, group_1c, group_2, group_3, group_4, group_5a, group_5b, shipped}
 use Rattle.paper.specs.TurnLaws.{turn_skipped, turn_run, turn_fits}
-use Rattle.paper.specs.LengthLaws.{read_done}
+use Rattle.paper.proofs.ShippedLaws.{read_done}
 use Rattle.paper.specs.Words.{read_word}
 use Rattle.groups.specs.Reads.{leaves}
 use Rattle.readings.specs.Steps.{leaves_opened}

@@ -9,7 +9,7 @@ use Rattle.paper.specs.Conditions.{for_single, highest}
 use Rattle.paper.specs.Groups.{Action, replace, single_letter, written, number_of_action, Rule}
 use Rattle.paper.specs.TestLaws.{and_left, and_right}
 use Rattle.paper.specs.Words.{all_small}
-use Rattle.records.specs.Records.{condition, ending, replacement, rule, outside, faulty_numbers, faulty_letters, faulty_action}
+use Rattle.records.specs.Records.{ending, replacement, rule, outside, faulty_numbers, faulty_letters, faulty_action}
 use Rattle.records.specs.Records.{faulty_rule}
 use Rattle.records.specs.RecordBytes.{rule_body, at_most12, allowed_action, allowed}
 

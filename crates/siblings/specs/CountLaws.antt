@@ -1,7 +1,7 @@
 -- The table has four numbers for each node that the node count counts.
 use Rattle.std.specs.Prelude.{ℕ, suc, ◌+◌, ◌*◌, ◌≤◌, ◌≡◌, refl, true, false, cond, List, [], ◌∷◌, ◌++◌, map, length}
 use Rattle.std.proofs.Common.{sym, ap, ◌∙◌, append_assoc, le_refl, arith, length-append, ne_eqb, eq-eqb}
-use Rattle.std.proofs.Math.Bool.{or-false, or_comm, or-true}
+use Rattle.std.proofs.Math.Bool.{or-false, or_comm}
 use Rattle.paper.specs.Groups.{Rule, Group, same}
 use Rattle.paper.specs.Nodes.{tails, member, distinct, node_count}
 use Rattle.siblings.specs.Layout.{present, roots, way, added, grown, nodes_of, table_of}

@@ -6,7 +6,8 @@ use Rattle.std.proofs.Common.{◌∙◌, arith, take_at, drop_at, le-ltb}
 use mathlib.Core.List.{List, [], ◌∷◌, ◌++◌, map, append-nil}
 use Rattle.std.proofs.Math.ListN.{length-map}
 use Rattle.paper.specs.Groups.{Group, Reading, done}
-use Rattle.paper.specs.LengthLaws.{Stems, NeverLengthens, never_lengthens, stem_done}
+use Rattle.paper.specs.LengthLaws.{Stems, NeverLengthens, never_lengthens}
+use Rattle.paper.proofs.ShippedLaws.{stem_done}
 use Rattle.paper.specs.TestLaws.{by_test}
 use Rattle.paper.specs.Shipped.{shipped}
 use Rattle.paper.specs.Words.{placed, stem}

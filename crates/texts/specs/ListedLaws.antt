@@ -5,7 +5,8 @@ use Rattle.std.specs.Prelude.{ℕ, ◌≤◌, ◌<◌, ◌≡◌, refl, ◌↔�
 use Rattle.std.proofs.Common.{sym, ap, ◌∙◌, inl, inr, ⊎_elim, arith}
 use Rattle.std.proofs.Math.Option.{none, some}
 use Rattle.paper.specs.Groups.{Reading, done}
-use Rattle.paper.specs.LengthLaws.{Stems, stem_done}
+use Rattle.paper.specs.LengthLaws.{Stems}
+use Rattle.paper.proofs.ShippedLaws.{stem_done}
 use Rattle.paper.specs.Shipped.{shipped}
 use Rattle.paper.specs.Words.{placed, stem}
 use Rattle.pieces.specs.Pieces.{lowered}

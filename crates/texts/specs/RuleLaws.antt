@@ -4,7 +4,7 @@ use Rattle.std.specs.Prelude.{ℕ, ◌≡◌, List, length}
 use Rattle.std.proofs.Common.{ap, ◌∙◌}
 use Rattle.paper.specs.Groups.{done}
 use Rattle.paper.specs.ListLaws.{empty}
-use Rattle.paper.specs.LengthLaws.{stem_done}
+use Rattle.paper.proofs.ShippedLaws.{stem_done}
 use Rattle.paper.specs.Shipped.{shipped}
 use Rattle.paper.specs.Words.{stem}
 use Rattle.lists.specs.Lists.{Entry, holding, read_list, excepting}

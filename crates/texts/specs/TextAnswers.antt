@@ -8,7 +8,7 @@ use Rattle.texts.specs.Texts.{Outcome}
 use Rattle.answers.specs.declared.TextRun.{TextRun}
 use Rattle.answers.specs.declared.TextRun.TheVariants.{Done, TooLong}
 use Rattle.answers.specs.declared.ListedText.{ListedText}
-use Rattle.answers.specs.declared.ListedText.TheVariants.{Text as Of-text, Refused as No-text}
+use Rattle.answers.specs.declared.ListedText.TheVariants.{Text as OfText, Refused as NoText}
 
 -- a call gives this number and these two values, and leaves these bytes in the place of the text
 pub record Gives (outcome : Outcome) (number stemmed left : ℕ) (after : List ℕ) : Type 0 where
@@ -39,10 +39,10 @@ other_number TooLong is = omega (arith, is)
 same_listed : (one two : ListedText) → number_of_listed_text one ≡ number_of_listed_text two → stemmed_of_listed one ≡ stemmed_of_listed two
     → left_of_listed one ≡ left_of_listed two
     → one ≡ two
-same_listed (Of-text one) (Of-text two) numbers stems lefts = ap Of-text (same_run one two numbers stems lefts)
-same_listed (Of-text one) (No-text place) numbers stems lefts = absurd (other_number one numbers)
-same_listed (No-text place) (Of-text two) numbers stems lefts = absurd (other_number two (sym numbers))
-same_listed (No-text place) (No-text other) numbers stems lefts = ap No-text stems
+same_listed (OfText one) (OfText two) numbers stems lefts = ap OfText (same_run one two numbers stems lefts)
+same_listed (OfText one) (NoText place) numbers stems lefts = absurd (other_number one numbers)
+same_listed (NoText place) (OfText two) numbers stems lefts = absurd (other_number two (sym numbers))
+same_listed (NoText place) (NoText other) numbers stems lefts = ap NoText stems
 
 pub run_determined : {outcome : Outcome} {after later : List ℕ} (one two : TextRun) → Answered outcome one after
     → Answered outcome two later

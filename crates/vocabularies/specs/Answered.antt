@@ -3,7 +3,7 @@ use Rattle.std.specs.Prelude.{ℕ, suc, ◌≤◌, ◌≡◌, refl, true, false,
 use Rattle.std.proofs.Common.{sym, ap, ◌∙◌, true≢false, append-nil, arith}
 use Rattle.paper.specs.Answered.{SmallWord}
 use Rattle.paper.specs.Groups.{done}
-use Rattle.paper.specs.LengthLaws.{stem_never_lengthens}
+use Rattle.paper.proofs.ShippedLaws.{stem_never_lengthens}
 use Rattle.paper.specs.Letters.{letters}
 use Rattle.paper.specs.Numbered.{number_of}
 use Rattle.paper.specs.NumberedLaws.{Every, every_false, every_map, every-both, every_append}

@@ -8,7 +8,7 @@ use Rattle.std.proofs.Math.Seq.{take-append_seam}
 use Rattle.std.proofs.lemmas.Bool.{eqb-false}
 use Rattle.paper.specs.Groups.{Reading, done, outgrown, same, ends_with}
 use Rattle.paper.specs.GroupsLaws.{same_equal, equal_same, same_long}
-use Rattle.paper.specs.LengthLaws.{stem_done}
+use Rattle.paper.proofs.ShippedLaws.{stem_done}
 use Rattle.paper.specs.Numbered.{number_of}
 use Rattle.paper.specs.NumberedLaws.{number_kept, number_found, number_last, every_false}
 use Rattle.paper.specs.Shipped.{shipped}

@@ -1,7 +1,6 @@
 -- `answers::judge` meets its contract: what is said by the length and the first byte outside a to z is what is said of the word.
 use mathlib.Core.Path.{ap, ◌∙◌}
 use lib.ListN.{length}
-use borrow.Author.Rules.{rules}
 use Rattle.paper.specs.Words.{judged_by}
 use Rattle.paper.specs.WordsLaws.{judged_by_lem}
 use Rattle.answers.proofs.judge.Goals as goal

@@ -1,5 +1,4 @@
 -- `blocks::kept` meets its contract: by what `has` and `letter_at` ensure.
-use borrow.Author.Rules.{rules}
 use Rattle.blocks.proofs.kept.Goals as goal
 
 pub returns : goal.returns

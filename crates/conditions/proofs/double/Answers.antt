@@ -1,5 +1,4 @@
 -- `conditions::double` meets its contract.
-use borrow.Author.Rules.{rules}
 use Rattle.conditions.proofs.double.Goals as goal
 
 pub returns : goal.returns

@@ -1,6 +1,5 @@
 -- `conditions::letter_at` meets its contract.
 use Prim.Native.Nat.{◌≤◌}
-use borrow.Author.Rules.{rules}
 use mathlib.Core.Path.{sym}
 use lib.ListN.{length, get_or-eq_default, length-reverse}
 use Rattle.paper.specs.Letters.{letter_at, inward}

@@ -1,5 +1,4 @@
 -- `conditions::short` meets its contract.
-use borrow.Author.Rules.{rules}
 use mathlib.Core.Bool.{or-false}
 use Rattle.paper.specs.Letters.{letters, among}
 use Rattle.conditions.proofs.short.Goals as goal

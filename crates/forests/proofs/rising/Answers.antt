@@ -1,9 +1,7 @@
-use Prim.Native.Nat.{◌+◌, ◌-◌, ◌<◌}
+use Prim.Native.Nat.{◌+◌, ◌-◌}
 use mathlib.Core.Path.{◌≡◌, ap}
 use native.Mathlib.Omega.{arith}
-use borrow.Author.Rules.{rules}
 use Rattle.paths.specs.Children.{letter}
-use Rattle.forests.specs.Shapes.{Rises}
 use Rattle.forests.specs.RisingSteps.{rises-start, rises_more, rises_stops}
 use Rattle.forests.proofs.rising.Goals as goal
 

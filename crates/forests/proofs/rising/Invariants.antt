@@ -1,11 +1,8 @@
 -- `forests::rising` meets its contract. The loop's invariant: the letters so far rise, and the last of them is at hand.
-use Prim.Native.Nat.{◌+◌, ◌-◌, ◌<◌}
-use mathlib.Core.Path.{◌≡◌, ap}
-use native.Mathlib.Omega.{arith}
-use borrow.Author.Rules.{rules}
+use Prim.Native.Nat.{◌-◌, ◌<◌}
+use mathlib.Core.Path.{◌≡◌}
 use Rattle.paths.specs.Children.{letter}
 use Rattle.forests.specs.Shapes.{Rises}
-use Rattle.forests.specs.RisingSteps.{rises-start, rises_more, rises_stops}
 use Rattle.forests.proofs.rising.Given as goal
 
 abbrev pub invariant-loop-k : goal.invariant-loop-k

@@ -1,8 +1,5 @@
-use Prim.Native.Nat.{◌-◌}
 use native.Mathlib.Omega.{arith}
 use borrow.Author.Count.{below_more}
-use borrow.Author.Rules.{rules}
-use Rattle.forests.specs.Shapes.{Bare}
 use Rattle.forests.proofs.roots_bare.Goals as goal
 
 pub returns-then-table-k-ne0 : goal.returns-then-table-k-ne0

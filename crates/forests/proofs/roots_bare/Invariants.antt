@@ -1,8 +1,5 @@
 -- `forests::roots_bare` meets its contract. The loop's invariant: the roots so far have letter 0.
 use Prim.Native.Nat.{◌-◌}
-use native.Mathlib.Omega.{arith}
-use borrow.Author.Count.{below_more}
-use borrow.Author.Rules.{rules}
 use Rattle.forests.specs.Shapes.{Bare}
 use Rattle.forests.proofs.roots_bare.Given as goal
 

@@ -1,21 +1,6 @@
-use Prim.Native.Nat.{◌+◌, ◌*◌, ◌-◌}
-use mathlib.Core.Logic.{⊎_elim}
+use Prim.Native.Nat.{◌+◌, ◌*◌}
 use native.Mathlib.Omega.{arith}
-use borrow.Author.Rules.{rules}
-use borrow.Author.Tests.{not-true, not-false}
-use Rattle.forests.specs.ShapeSteps.{
-  SoFar,
-  many_roots,
-  lettered_root,
-  at_first,
-  all_seen,
-  leaf-astray,
-  too_far,
-  astray,
-  falling,
-  leaf,
-  parent,
-}
+use Rattle.forests.specs.ShapeSteps.{many_roots, lettered_root, at_first, all_seen, leaf-astray, too_far, astray, falling, leaf, parent}
 use Rattle.forests.proofs.shape_of.Goals as goal
 use Rattle.forests.proofs.shape_of.Goals.{then-count-eq0+else-first-ne0, else-count-eq0+else-most-end+else-first-next+else-not-rising}
 
@@ -35,35 +20,29 @@ pub overflow_cast-count : goal.overflow_cast-count
 overflow_cast-count c = omega (arith, c.shared_slice_known-in-loop-i-2-1.given (4 * c.loop-i.i + 2))
 
 pub returns-then-first-ne0 : goal.returns-then-first-ne0
-returns-then-first-ne0 c = let turn = c in
-    leaf-astray turn.loop-i.invariant turn.loop-i-test.true c.if-count-eq0.true c.if-first-ne0.true
+returns-then-first-ne0 c = leaf-astray c.loop-i.invariant c.loop-i-test.true c.if-count-eq0.true c.if-first-ne0.true
 
 pub overflow_add-end : goal.overflow_add-end
 overflow_add-end c = omega (arith, c.shared_slice_known-in-loop-i-2-1.given (4 * c.loop-i.i + 2))
 
 pub returns-then-most-end : goal.returns-then-most-end
-returns-then-most-end c = let turn = c in
-    too_far turn.loop-i.invariant turn.loop-i-test.true turn.most_nodes-most.ensures
+returns-then-most-end c = too_far c.loop-i.invariant c.loop-i-test.true c.most_nodes-most.ensures
     c.if-most-end.true
 
 pub returns-then-first-next : goal.returns-then-first-next
-returns-then-first-next c = let turn = c in
-    astray turn.loop-i.invariant turn.loop-i-test.true c.if-count-eq0.false c.if-first-next.true
+returns-then-first-next c = astray c.loop-i.invariant c.loop-i-test.true c.if-count-eq0.false c.if-first-next.true
 
 pub rising-requires : goal.rising-requires
 rising-requires c = record { first_lt_end = omega (arith, c.if-count-eq0.false); end_in_bounds = omega arith }
 
 pub returns-then-not-rising : goal.returns-then-not-rising
-returns-then-not-rising c = let turn = c in
-    let falls = rw c.if-not-rising.true at c.rising.ensures in
-    falling turn.loop-i.invariant turn.loop-i-test.true falls
+returns-then-not-rising c = let falls = rw c.if-not-rising.true at c.rising.ensures in
+    falling c.loop-i.invariant c.loop-i-test.true falls
 
 pub loop-i-preserved : goal.loop-i-preserved
-loop-i-preserved c = let turn = c in
-    let so_far = turn.loop-i.invariant in
-    let here = turn.loop-i-test.true in
-    let roots = turn in
-    let bare = rw roots.if-not-roots_bare.false at roots.roots_bare.ensures in
+loop-i-preserved c = let so_far = c.loop-i.invariant in
+    let here = c.loop-i-test.true in
+    let bare = rw c.if-not-roots_bare.false at c.roots_bare.ensures in
     elim c.if-count-eq0.branch [
       | then-count-eq0+else-first-ne0 w ↦ rw w.next-is (leaf so_far here bare w.if-count-eq0.true w.if-first-ne0.false)
       | else-count-eq0+else-most-end+else-first-next+else-not-rising w ↦

@@ -1,22 +1,6 @@
 -- `forests::shape_of` meets its contract. The loop's invariant: the nodes before this one are in their places.
-use Prim.Native.Nat.{◌+◌, ◌*◌, ◌-◌}
-use mathlib.Core.Logic.{⊎_elim}
-use native.Mathlib.Omega.{arith}
-use borrow.Author.Rules.{rules}
-use borrow.Author.Tests.{not-true, not-false}
-use Rattle.forests.specs.ShapeSteps.{
-  SoFar,
-  many_roots,
-  lettered_root,
-  at_first,
-  all_seen,
-  leaf-astray,
-  too_far,
-  astray,
-  falling,
-  leaf,
-  parent,
-}
+use Prim.Native.Nat.{◌-◌}
+use Rattle.forests.specs.ShapeSteps.{SoFar}
 use Rattle.forests.proofs.shape_of.Given as goal
 
 abbrev pub invariant-loop-i : goal.invariant-loop-i

@@ -26,8 +26,7 @@ pub left_by-left-requires : goal.left_by-left-requires
 left_by-left-requires c = ((tested (goal.at.left_by-left-requires c).Then-to-rules).0, c.chosen_pair-rule.ensures.upper_bound)
 
 pub returns-then-to-rules : goal.returns-then-to-rules
-returns-then-to-rules c group noted paired all = let test = c in
-    let args = test.args in
+returns-then-to-rules c group noted paired all = let args = c.args in
     (left_cuts args.rules.now args.to _ (tested (goal.at.returns-then-to-rules c).Then-to-rules).0 group args.word.now
     (c.chosen_pair-rule.ensures.chosen_paired group noted paired) all _ _ c.left_by-left.ensures.len_value c.left_by-left.ensures.opened_value).cut
 

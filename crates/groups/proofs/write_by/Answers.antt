@@ -1,6 +1,5 @@
 -- `groups::write_by` meets its contract: what the rule leaves is what the group does, and the tests hold of every word that stands.
 use Prim.Native.Nat.{◌≤◌}
-use borrow.Author.Rules.{rules}
 use borrow.Author.Tests.{leb-true, le-leb}
 use native.Mathlib.Omega.{arith}
 use mathlib.Core.Path.{sym, ◌∙◌}
@@ -35,8 +34,7 @@ pub obey_by-requires : goal.obey_by-requires
 obey_by-requires c = let test = tested (goal.at.obey_by-requires c).Then-len-word in record { rows = (test.1, c.chosen-rule.ensures.upper_bound); len_in_bounds = test.0 }
 
 pub returns-then-len-word : goal.returns-then-len-word
-returns-then-len-word c group stands narrowed = let obey = c in
-    group_written _ (obey.chosen-rule.ensures.chosen_by group stands.noted narrowed) (obey.obey_by.ensures stands)
+returns-then-len-word c group stands narrowed = group_written _ (c.chosen-rule.ensures.chosen_by group stands.noted narrowed) (c.obey_by.ensures stands)
 
 pub returns : goal.returns
 returns c group stands narrowed fits = let args = c.args in

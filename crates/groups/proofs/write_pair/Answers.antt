@@ -1,6 +1,5 @@
 -- `groups::write_pair` meets its contract: what the rule leaves is what the group does, and the tests hold of every word that stands.
 use Prim.Native.Nat.{◌≤◌}
-use borrow.Author.Rules.{rules}
 use borrow.Author.Tests.{leb-true, le-leb}
 use native.Mathlib.Omega.{arith}
 use mathlib.Core.Path.{sym, ◌∙◌}
@@ -39,8 +38,7 @@ pub obey_by-requires : goal.obey_by-requires
 obey_by-requires c = let test = tested (goal.at.obey_by-requires c).Then-len-word in record { rows = (test.1.0, c.chosen_pair-rule.ensures.upper_bound); len_in_bounds = test.0 }
 
 pub returns-then-len-word : goal.returns-then-len-word
-returns-then-len-word c group stands paired = let obey = c in
-    group_written _ (obey.chosen_pair-rule.ensures.chosen_paired group stands.noted paired) (obey.obey_by.ensures stands)
+returns-then-len-word c group stands paired = group_written _ (c.chosen_pair-rule.ensures.chosen_paired group stands.noted paired) (c.obey_by.ensures stands)
 
 pub returns : goal.returns
 returns c group stands paired fits = let args = c.args in

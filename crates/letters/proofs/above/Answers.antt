@@ -1,13 +1,11 @@
-use Prim.Native.Nat.{◌+◌, ◌-◌, ◌≤◌}
-use borrow.Author.Rules.{rules}
+use Prim.Native.Nat.{◌+◌}
 use borrow.Author.Tests.{lt-ltb, le-ltb}
 use native.Mathlib.Omega.{arith}
 use mathlib.Core.Path.{refl, sym}
-use lib.ListN.{length}
 use Rattle.paper.specs.Letters.{letters}
 use Rattle.paper.specs.States.{state as state_of}
 use Rattle.letters.specs.Scan.{class_table}
-use Rattle.letters.proofs.Steps.{Passing, step-asks, step_gives, all_passed, state_passed}
+use Rattle.letters.proofs.Steps.{step-asks, step_gives, all_passed, state_passed}
 use Rattle.letters.proofs.above.Goals as goal
 
 -- where the loop begins: the constant is the table of two rows, by computation

@@ -1,8 +1,6 @@
-use Prim.Native.Nat.{ℕ, ◌+◌, ◌-◌, ◌≤◌, ◌<◌}
 use native.Mathlib.Omega.{arith}
-use mathlib.Core.Path.{◌≡◌, sym}
+use mathlib.Core.Path.{sym}
 use borrow.Author.Count.{below_more}
-use lib.ListN.{length, get_or}
 use Rattle.paper.specs.GroupsLaws.{ends_short, ends_yes, ends_no}
 use Rattle.letters.proofs.ends_with.Goals as goal
 

@@ -1,10 +1,7 @@
 -- `letters::ends_with` meets its contract: at the loop's head the letters passed are those of the ending.
 use Prim.Native.Nat.{ℕ, ◌+◌, ◌-◌, ◌≤◌, ◌<◌}
-use native.Mathlib.Omega.{arith}
-use mathlib.Core.Path.{◌≡◌, sym}
-use borrow.Author.Count.{below_more}
+use mathlib.Core.Path.{◌≡◌}
 use lib.ListN.{length, get_or}
-use Rattle.paper.specs.GroupsLaws.{ends_short, ends_yes, ends_no}
 use Rattle.letters.proofs.ends_with.Given as goal
 
 abbrev pub invariant-loop-i : goal.invariant-loop-i

@@ -1,5 +1,4 @@
 -- `letters::holds` meets its contract; without a last letter l condition 8 does not hold.
-use borrow.Author.Rules.{rules}
 use borrow.Author.Tests.{ne_eqb}
 use mathlib.Core.Path.{sym, ◌∙◌}
 use mathlib.Core.Bool.{and-false}

@@ -1,5 +1,4 @@
 -- `letters::measure` meets its contract: the measure is half of the state.
-use borrow.Author.Rules.{rules}
 use Rattle.paper.specs.States.{measure_by_state}
 use Rattle.letters.proofs.measure.Goals as goal
 

@@ -1,5 +1,4 @@
 -- `letters::next_state` meets its contract: the class is another where the two tests differ.
-use borrow.Author.Rules.{rules}
 use mathlib.Core.Path.{refl}
 use Rattle.letters.proofs.Steps.{next_by_class}
 use Rattle.letters.proofs.next_state.Goals as goal

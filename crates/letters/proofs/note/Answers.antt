@@ -1,9 +1,6 @@
-use Prim.Native.Nat.{◌-◌, ◌≤◌, ◌<◌}
-use borrow.Author.Rules.{rules}
 use native.Mathlib.Omega.{arith}
 use mathlib.Core.Path.{◌≡◌, refl, ◌∙◌}
 use mathlib.Core.Bool.{false, beq}
-use mathlib.Core.Logic.{⊎_elim}
 use borrow.Author.Tests.{leb-false, ltb-false, not-true, not-false}
 use lib.Dec.{leb, ltb}
 use lib.ListN.{length, get_or}
@@ -11,10 +8,9 @@ use Rattle.paper.specs.Letters.{letters}
 use Rattle.paper.specs.Noted.{next_state}
 use Rattle.paper.specs.TestLaws.{neither_left, neither_right}
 use Rattle.letters.specs.Scan.{class_table}
-use Rattle.letters.proofs.Classes.{odd}
-use Rattle.pieces.specs.FirstOther.{Sought, below-found, above_found, sought_more, none_found}
+use Rattle.pieces.specs.FirstOther.{below-found, above_found, sought_more, none_found}
 use Rattle.letters.proofs.Steps.{next_by_class, next_odd}
-use Rattle.letters.proofs.Writes.{Writing, writing_none, writing_more, noted_is, noted_not}
+use Rattle.letters.proofs.Writes.{writing_none, writing_more, noted_is, noted_not}
 use Rattle.letters.proofs.note.Goals as goal
 use Rattle.letters.proofs.note.Goals.{else-now-vowel, then-now-vowel}
 
@@ -76,21 +72,19 @@ pub loop-i-smaller : goal.loop-i-smaller
 loop-i-smaller c = omega arith
 
 pub loop-i-preserved : goal.loop-i-preserved
-loop-i-preserved c = let met = c in
-    let class = met.vowel_after-now in
-    let tests = met in
-    let at = tests.loop-i in
-    let a = tests.args in
+loop-i-preserved c = let class = c.vowel_after-now in
+    let at = c.loop-i in
+    let a = c.args in
     let word = a.word.now in
     let letter = get_or word at.i 0 in
-    let more = sought_more word at.i at.invariant.3 (omega arith) tests.if-letter-lt97.false tests.if-letter-gt122.false in
+    let more = sought_more word at.i at.invariant.3 (omega arith) c.if-letter-lt97.false c.if-letter-gt122.false in
     let by-class = next_by_class at.consonant at.vowel class.result at.state letter at.invariant.5 class.ensures in
     let same = beq class.result at.vowel in
-    let next : met.if-now-vowel.state ≡ next_state at.consonant at.state letter =
-    elim met.if-now-vowel.branch [ then-now-vowel w ↦ w.state-is ∙ (rw (not-true same w.if-now-vowel.true) at by-class) | else-now-vowel w ↦ w.state-is ∙ (rw (not-false same w.if-now-vowel.false) at by-class) ] in
+    let next : c.if-now-vowel.state ≡ next_state at.consonant at.state letter =
+    elim c.if-now-vowel.branch [ then-now-vowel w ↦ w.state-is ∙ (rw (not-true same w.if-now-vowel.true) at by-class) | else-now-vowel w ↦ w.state-is ∙ (rw (not-false same w.if-now-vowel.false) at by-class) ] in
     let odd-next = next_odd at.consonant at.vowel class.result at.state letter at.invariant.5 class.ensures _ next in
     let wrote = writing_more word a.states.now 0 false 0 at.invariant.1 at.states at.state at.consonant at.i
-    met.if-now-vowel.state at.invariant.4 (omega arith) next in
+    c.if-now-vowel.state at.invariant.4 (omega arith) next in
     (at.invariant.0, at.invariant.1, at.invariant.2, more, rw odd-next wrote, odd-next)
 
 pub shape_of-states : goal.shape_of-states

@@ -1,16 +1,14 @@
-use Prim.Native.Nat.{◌+◌, ◌-◌, ◌≤◌, ◌<◌}
+use Prim.Native.Nat.{◌+◌, ◌-◌}
 use native.Mathlib.Omega.{arith}
-use mathlib.Core.Path.{◌≡◌, refl}
-use mathlib.Core.Bool.{◌&&◌, and-false}
+use mathlib.Core.Path.{refl}
+use mathlib.Core.Bool.{and-false}
 use borrow.Author.Tests.{le-ltb, lt-leb}
-use lib.Dec.{ltb}
 use lib.ListN.{length, get_or}
 use Rattle.paper.specs.Letters.{letters}
-use Rattle.paper.specs.States.{even}
 use Rattle.letters.specs.Scan.{class_table}
 use Rattle.letters.specs.Notes.{renewed}
 use Rattle.letters.proofs.Steps.{next_most}
-use Rattle.letters.proofs.Writes.{Writing, writing_none, writing_more, renewed_is}
+use Rattle.letters.proofs.Writes.{writing_none, writing_more, renewed_is}
 use Rattle.letters.proofs.renew.Goals as goal
 
 pub returns-then-word-from : goal.returns-then-word-from

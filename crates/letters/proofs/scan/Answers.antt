@@ -1,11 +1,8 @@
-use Prim.Native.Nat.{◌-◌}
-use borrow.Author.Rules.{rules}
 use native.Mathlib.Omega.{arith}
 use mathlib.Core.Path.{refl}
-use lib.ListN.{length}
 use Rattle.paper.specs.Letters.{letters}
 use Rattle.letters.specs.Scan.{class_table}
-use Rattle.letters.proofs.Steps.{Passing, step-asks, step_gives, all_passed}
+use Rattle.letters.proofs.Steps.{step-asks, step_gives, all_passed}
 use Rattle.letters.proofs.scan.Goals as goal
 
 -- where the loop begins: the constant is the table of two rows, by computation

@@ -1,5 +1,4 @@
 -- `letters::step` meets its contract: the state is the next one, and the others move on.
-use borrow.Author.Rules.{rules}
 use native.Mathlib.Omega.{arith}
 use Rattle.letters.proofs.Steps.{next_most, one_more}
 use Rattle.letters.proofs.step.Goals as goal

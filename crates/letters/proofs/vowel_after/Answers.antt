@@ -1,5 +1,4 @@
 -- `letters::vowel_after` meets its contract: outside a to z there is no vowel, and within it the table says.
-use borrow.Author.Rules.{rules}
 use native.Mathlib.Omega.{arith}
 use mathlib.Core.Path.{sym, ap, ◌∙◌}
 use mathlib.Core.Bool.{◌&&◌, ◌||◌}
@@ -17,8 +16,7 @@ pub returns-then-letter-gt122 : goal.returns-then-letter-gt122
 returns-then-letter-gt122 c = sym (above_z (class_before c.args.consonant) c.args.letter c.if-letter-gt122.true)
 
 pub returns : goal.returns
-returns c = let start = c in
-    let a = start.args in
+returns c = let a = c.args in
     let k = a.letter - 97 in
-    ap (λ (t : List (List ℕ)). odd (get_or (get_or t 0 []) k 0) || (odd (get_or (get_or t 1 []) k 0) && a.consonant)) start.requires
+    ap (λ (t : List (List ℕ)). odd (get_or (get_or t 0 []) k 0) || (odd (get_or (get_or t 1 []) k 0) && a.consonant)) c.requires
     ∙ in_table a.consonant a.letter (omega arith) (omega arith)

@@ -1,5 +1,4 @@
 -- `lines::closed` meets its contract.
-use borrow.Author.Rules.{rules}
 use lib.ListN.{drop}
 use mathlib.Core.Path.{◌≡◌, refl, sym, ap, ◌∙◌}
 use Rattle.lines.specs.Reading.{close_in, closed_in}

@@ -1,5 +1,4 @@
 -- `lines::line` meets its contract.
-use borrow.Author.Rules.{rules}
 use mathlib.Core.Path.{refl, sym, ◌∙◌}
 use Rattle.lines.specs.Reading.{found_in}
 use Rattle.lines.specs.PartLaws.{inside, head-found}
@@ -14,8 +13,7 @@ returns-in-Group c = rw (sym c.read_head.ensures ∙ c.in-Group.is) refl
 
 pub returns-in-Condition : goal.returns-in-Condition
 unfolding found_in
-returns-in-Condition c = let number = c in
-    rw (sym number.read_head.ensures ∙ number.in-Condition.is) c.rule.ensures
+returns-in-Condition c = rw (sym c.read_head.ensures ∙ c.in-Condition.is) c.rule.ensures
 
 pub returns-in-Nothing : goal.returns-in-Nothing
 unfolding found_in

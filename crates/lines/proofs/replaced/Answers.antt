@@ -1,5 +1,4 @@
 -- `lines::replaced` meets its contract.
-use borrow.Author.Rules.{rules}
 use native.Mathlib.Omega.{arith}
 use mathlib.Core.Path.{◌≡◌, refl, sym, ap, ◌∙◌}
 use lib.ListN.{drop, length-drop}
@@ -59,18 +58,13 @@ overflow_add-line-in-Letters-2 c = let s = c.args in
     omega (arith, inside (here (goal.at.overflow_add-line-in-Letters-2 c).In-Letters (part (goal.at.overflow_add-line-in-Letters-2 c).After-read_part)).letters_there, length-drop s.from s.rest.now)
 
 pub closed-requires-in-Letters : goal.closed-requires-in-Letters
-closed-requires-in-Letters c = let s = c in
-    omega (arith, inside (here (goal.at.closed-requires-in-Letters c).In-Letters (part (goal.at.closed-requires-in-Letters c).After-read_part)).letters_there, length-drop s.args.from s.args.rest.now, s.requires)
+closed-requires-in-Letters c = omega (arith, inside (here (goal.at.closed-requires-in-Letters c).In-Letters (part (goal.at.closed-requires-in-Letters c).After-read_part)).letters_there, length-drop c.args.from c.args.rest.now, c.requires)
 
 pub returns-in-Letters : goal.returns-in-Letters
 unfolding after_arrow
-returns-in-Letters c = let count = c in
-    let else = count in
-    c.closed-in-Letters.ensures
-    ∙ sym (rw (single (goal.at.returns-in-Letters c).After-starts ∙ else.if-starts.false, part (goal.at.returns-in-Letters c).After-read_part ∙ count.in-Letters.is) refl)
+returns-in-Letters c = c.closed-in-Letters.ensures
+    ∙ sym (rw (single (goal.at.returns-in-Letters c).After-starts ∙ c.if-starts.false, part (goal.at.returns-in-Letters c).After-read_part ∙ c.in-Letters.is) refl)
 
 pub returns-in-Nothing : goal.returns-in-Nothing
 unfolding after_arrow
-returns-in-Nothing c = let asked = c in
-    let else = asked in
-    rw (single (goal.at.returns-in-Nothing c).After-starts ∙ else.if-starts.false, part (goal.at.returns-in-Nothing c).After-read_part ∙ c.in-Nothing.is) refl
+returns-in-Nothing c = rw (single (goal.at.returns-in-Nothing c).After-starts ∙ c.if-starts.false, part (goal.at.returns-in-Nothing c).After-read_part ∙ c.in-Nothing.is) refl

@@ -1,5 +1,4 @@
 -- `lines::rule` meets its contract.
-use borrow.Author.Rules.{rules}
 use Prim.Native.Nat.{◌+◌, ◌≤◌}
 use native.Mathlib.Omega.{arith}
 use mathlib.Core.Path.{◌≡◌, refl, sym, ap, ◌∙◌}
@@ -62,12 +61,10 @@ overflow_add-arrow c = let s = c.args in
     omega (arith, inside (here (goal.at.overflow_add-arrow c).In-Letters (part (goal.at.overflow_add-arrow c).After-read_part)).letters_there, length-drop s.start s.rest.now)
 
 pub slice_bounds-starts-count : goal.slice_bounds-starts-count
-slice_bounds-starts-count c = let s = c in
-    omega (arith, inside (here (goal.at.slice_bounds-starts-count c).In-Letters (part (goal.at.slice_bounds-starts-count c).After-read_part)).letters_there, length-drop s.args.start s.args.rest.now, s.requires)
+slice_bounds-starts-count c = omega (arith, inside (here (goal.at.slice_bounds-starts-count c).In-Letters (part (goal.at.slice_bounds-starts-count c).After-read_part)).letters_there, length-drop c.args.start c.args.rest.now, c.requires)
 
 pub slice_bounds-starts-start : goal.slice_bounds-starts-start
-slice_bounds-starts-start c = let s = c in
-    omega (arith, inside (here (goal.at.slice_bounds-starts-start c).In-Letters (part (goal.at.slice_bounds-starts-start c).After-read_part)).letters_there, length-drop s.args.start s.args.rest.now, s.requires)
+slice_bounds-starts-start c = omega (arith, inside (here (goal.at.slice_bounds-starts-start c).In-Letters (part (goal.at.slice_bounds-starts-start c).After-read_part)).letters_there, length-drop c.args.start c.args.rest.now, c.requires)
 
 pub overflow_add-start : goal.overflow_add-start
 overflow_add-start c = omega (arith, four (goal.at.overflow_add-start c).Then-starts (arrow (goal.at.overflow_add-start c).After-starts), (here (goal.at.overflow_add-start c).In-Letters (part (goal.at.overflow_add-start c).After-read_part)).at_most)
@@ -80,14 +77,12 @@ replaced-requires c = four (goal.at.replaced-requires c).Then-starts (arrow (goa
 
 pub returns-then-starts : goal.returns-then-starts
 unfolding after_condition
-returns-then-starts c = let count = c in
-    c.replaced.ensures
-    ∙ sym (rw (part (goal.at.returns-then-starts c).After-read_part ∙ count.in-Letters.is, arrow (goal.at.returns-then-starts c).After-starts ∙ c.if-starts.true) refl)
+returns-then-starts c = c.replaced.ensures
+    ∙ sym (rw (part (goal.at.returns-then-starts c).After-read_part ∙ c.in-Letters.is, arrow (goal.at.returns-then-starts c).After-starts ∙ c.if-starts.true) refl)
 
 pub returns-else-starts : goal.returns-else-starts
 unfolding after_condition
-returns-else-starts c = let count = c in
-    rw (part (goal.at.returns-else-starts c).After-read_part ∙ count.in-Letters.is, arrow (goal.at.returns-else-starts c).After-starts ∙ c.if-starts.false) refl
+returns-else-starts c = rw (part (goal.at.returns-else-starts c).After-read_part ∙ c.in-Letters.is, arrow (goal.at.returns-else-starts c).After-starts ∙ c.if-starts.false) refl
 
 pub returns-in-Nothing : goal.returns-in-Nothing
 unfolding after_condition

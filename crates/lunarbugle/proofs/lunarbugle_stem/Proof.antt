@@ -5,7 +5,7 @@ use Prim.Native.Nat.{ℕ}
 use mathlib.Core.List.{List}
 use Rattle.paper.specs.Shipped.{shipped}
 use Rattle.paper.specs.Words.{stem, outcome}
-use Rattle.paper.specs.LengthLaws.{stem_never_lengthens}
+use Rattle.paper.proofs.ShippedLaws.{stem_never_lengthens}
 use Rattle.paper.specs.Demand2.{Bounds, outcome_bounds}
 use Rattle.lunarbugle.specs.Packed.{packed}
 use Rattle.lunarbugle.proofs.lunarbugle_stem.Statement.{statement}

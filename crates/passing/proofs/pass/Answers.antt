@@ -5,7 +5,6 @@ use Rattle.records.specs.declared.Record.TheVariants.{End}
 use Rattle.records.specs.FramingLaws.{FramedAt, framed}
 use Rattle.passing.specs.Passed.{passed_group, passed_rule, passed_at}
 use Rattle.records.specs.FrameCases.{frame_cut, frame_group, frame_rule, frame_end, frame_other}
-use borrow.Author.Rules.{rules}
 use Rattle.passing.proofs.pass.Goals as goal
 use Rattle.passing.proofs.pass.Goals.{In-Whole}
 

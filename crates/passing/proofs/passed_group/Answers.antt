@@ -3,7 +3,6 @@ use borrow.Author.Tests.{lt-ltb, le-ltb}
 use Rattle.records.specs.Framing.{number}
 use Rattle.records.specs.Records.{gate_number}
 use Rattle.passing.specs.Passed.{passed_group}
-use borrow.Author.Rules.{rules}
 use Rattle.passing.proofs.passed_group.Goals as goal
 
 pub returns-then-body-lt2 : goal.returns-then-body-lt2

@@ -9,7 +9,6 @@ use Rattle.paper.specs.TestLaws.{or_right}
 use Rattle.records.specs.declared.Record.TheVariants.{Rule, Faulty}
 use Rattle.records.specs.Records.{condition, action_number, opens_number, ending_length, ending_place, replacement_place}
 use Rattle.passing.specs.Passed.{passed_rule}
-use borrow.Author.Rules.{rules}
 use Rattle.passing.proofs.passed_rule.Goals as goal
 
 module _ (place : ℕ) (body : List ℕ) (n : ℕ) (is : n ≡ ending_length body) where
@@ -35,5 +34,4 @@ pub returns-then-body-end : goal.returns-then-body-end
 returns-then-body-end c = too_short _ _ _ c.wide-n.ensures.value c.if-body-lt4.false c.if-body-end.true
 
 pub returns : goal.returns
-returns c = let read = c in
-    told _ _ _ read.wide-n.ensures.value read.if-body-lt4.false read.if-body-end.false
+returns c = told _ _ _ c.wide-n.ensures.value c.if-body-lt4.false c.if-body-end.false

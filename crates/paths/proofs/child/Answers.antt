@@ -1,9 +1,7 @@
-use Prim.Native.Nat.{◌+◌, ◌<◌}
-use mathlib.Core.Path.{◌≡◌, sym, ◌∙◌}
+use mathlib.Core.Path.{sym, ◌∙◌}
 use lib.Dec.{lit<}
 use native.Mathlib.Omega.{arith}
-use borrow.Author.Rules.{rules}
-use Rattle.paths.specs.Children.{sought, child as childOf}
+use Rattle.paths.specs.Children.{child as childOf}
 use Rattle.paths.specs.ChildLaws.{child_beyond, sought_here, sought-past, sought_next, sought-over}
 use Rattle.paths.proofs.child.Goals as goal
 

@@ -1,12 +1,8 @@
 -- `paths::child` meets its contract: the child of a letter. The loop's invariant: what is found from here on is what is found
 -- from the first child on.
 use Prim.Native.Nat.{◌+◌, ◌<◌}
-use mathlib.Core.Path.{◌≡◌, sym, ◌∙◌}
-use lib.Dec.{lit<}
-use native.Mathlib.Omega.{arith}
-use borrow.Author.Rules.{rules}
+use mathlib.Core.Path.{◌≡◌}
 use Rattle.paths.specs.Children.{sought, child as childOf}
-use Rattle.paths.specs.ChildLaws.{child_beyond, sought_here, sought-past, sought_next, sought-over}
 use Rattle.paths.proofs.child.Given as goal
 
 abbrev pub invariant-loop-left : goal.invariant-loop-left

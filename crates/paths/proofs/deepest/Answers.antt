@@ -1,13 +1,9 @@
-use Prim.Native.Nat.{◌<◌, ◌≤◌, ◌^◌}
-use mathlib.Core.Path.{◌≡◌, sym, ◌∙◌}
+use mathlib.Core.Path.{sym, ◌∙◌}
 use native.Mathlib.Omega.{arith}
-use borrow.Author.Rules.{rules}
-use lib.ListN.{length, take}
 use lib.Seq.{take-length}
 use Rattle.paper.specs.Letters.{inward}
 use Rattle.paths.specs.Children.{nodes_in}
-use Rattle.walks.specs.Walk.{deepest as deepestOf}
-use Rattle.walks.specs.WalkSteps.{or_found, deepest-start, LetterStep, step-missing, step_holding, step-empty, word_over}
+use Rattle.walks.specs.WalkSteps.{deepest-start, LetterStep, step-missing, step_holding, step-empty, word_over}
 use Rattle.paths.specs.BeyondLaws.{deepest-beyond}
 use Rattle.paths.proofs.deepest.Goals as goal
 use Rattle.paths.proofs.deepest.Goals.{After-child-at}

@@ -1,16 +1,12 @@
 -- `paths::deepest` meets its contract: the deepest rule. The loop's invariant: the whole walk finds what the rest of
 -- it finds, or else what was found so far.
 use Prim.Native.Nat.{◌<◌, ◌≤◌, ◌^◌}
-use mathlib.Core.Path.{◌≡◌, sym, ◌∙◌}
-use native.Mathlib.Omega.{arith}
-use borrow.Author.Rules.{rules}
+use mathlib.Core.Path.{◌≡◌}
 use lib.ListN.{length, take}
-use lib.Seq.{take-length}
 use Rattle.paper.specs.Letters.{inward}
 use Rattle.paths.specs.Children.{nodes_in}
 use Rattle.walks.specs.Walk.{deepest as deepestOf}
-use Rattle.walks.specs.WalkSteps.{or_found, deepest-start, LetterStep, step-missing, step_holding, step-empty, word_over}
-use Rattle.paths.specs.BeyondLaws.{deepest-beyond}
+use Rattle.walks.specs.WalkSteps.{or_found}
 use Rattle.paths.proofs.deepest.Given as goal
 
 abbrev pub invariant-loop-left : goal.invariant-loop-left

@@ -1,11 +1,7 @@
-use Prim.Native.Nat.{◌<◌, ◌≤◌, ◌-◌, ◌^◌}
-use mathlib.Core.Path.{◌≡◌, sym, ◌∙◌}
-use mathlib.Core.Option.{some}
+use Prim.Native.Nat.{◌-◌}
+use mathlib.Core.Path.{sym, ◌∙◌}
 use native.Mathlib.Omega.{arith}
-use borrow.Author.Rules.{rules}
-use lib.ListN.{length, drop}
 use Rattle.paths.specs.Children.{nodes_in}
-use Rattle.walks.specs.Walk.{reached}
 use Rattle.walks.specs.WalkSteps.{LetterStep, reached_root, reached_on, reached_end, held_nowhere, held_reached}
 use Rattle.paths.specs.BeyondLaws.{held_beyond}
 use Rattle.paths.proofs.held_at.Goals as goal

@@ -1,15 +1,11 @@
 -- `paths::held_at` meets its contract: the rule at the end of a path. The loop's invariant: the letters passed lead
 -- to this node.
-use Prim.Native.Nat.{◌<◌, ◌≤◌, ◌-◌, ◌^◌}
-use mathlib.Core.Path.{◌≡◌, sym, ◌∙◌}
+use Prim.Native.Nat.{◌<◌, ◌≤◌, ◌^◌}
+use mathlib.Core.Path.{◌≡◌}
 use mathlib.Core.Option.{some}
-use native.Mathlib.Omega.{arith}
-use borrow.Author.Rules.{rules}
 use lib.ListN.{length, drop}
 use Rattle.paths.specs.Children.{nodes_in}
 use Rattle.walks.specs.Walk.{reached}
-use Rattle.walks.specs.WalkSteps.{LetterStep, reached_root, reached_on, reached_end, held_nowhere, held_reached}
-use Rattle.paths.specs.BeyondLaws.{held_beyond}
 use Rattle.paths.proofs.held_at.Given as goal
 
 abbrev pub invariant-loop-left : goal.invariant-loop-left

@@ -1,7 +1,5 @@
-use Prim.Native.Nat.{◌-◌, ◌≤◌}
 use native.Mathlib.Omega.{arith}
-use lib.ListN.{length}
-use Rattle.pieces.specs.FirstOther.{Sought, below-found, above_found, sought_more, none_found}
+use Rattle.pieces.specs.FirstOther.{below-found, above_found, sought_more, none_found}
 use Rattle.pieces.proofs.first_other.Goals as goal
 
 pub returns-then-byte-lt97 : goal.returns-then-byte-lt97

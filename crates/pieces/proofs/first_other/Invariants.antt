@@ -1,8 +1,7 @@
 -- `pieces::first_other` meets its contract: what is left to find lies in the bytes not passed yet.
 use Prim.Native.Nat.{◌-◌, ◌≤◌}
-use native.Mathlib.Omega.{arith}
 use lib.ListN.{length}
-use Rattle.pieces.specs.FirstOther.{Sought, below-found, above_found, sought_more, none_found}
+use Rattle.pieces.specs.FirstOther.{Sought}
 use Rattle.pieces.proofs.first_other.Given as goal
 
 abbrev pub invariant-loop-i : goal.invariant-loop-i

@@ -1,7 +1,6 @@
 -- `pieces::next_word` meets its contract: the part from the offset to the end of the letters there is the next word.
 use Prim.Native.Nat.{◌+◌}
 use mathlib.Core.Path.{sym, ap, ◌∙◌}
-use borrow.Author.Rules.{rules}
 use native.Mathlib.Omega.{arith}
 use lib.ListN.{drop}
 use Rattle.pieces.specs.Pieces.{leading}

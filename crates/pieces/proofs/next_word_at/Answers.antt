@@ -1,9 +1,6 @@
-use Prim.Native.Nat.{◌+◌, ◌-◌, ◌≤◌}
-use mathlib.Core.Path.{◌≡◌, sym, ◌∙◌}
+use mathlib.Core.Path.{sym, ◌∙◌}
 use native.Mathlib.Omega.{arith}
-use lib.ListN.{length, drop}
-use Rattle.pieces.specs.Pieces.{pieces}
-use Rattle.pieces.specs.Next.{gap, next_word_at}
+use Rattle.pieces.specs.Next.{next_word_at}
 use Rattle.pieces.proofs.Scan.{gap_at_letter, gap_at_other, gap_at_end}
 use Rattle.pieces.proofs.next_word_at.Goals as goal
 

@@ -1,12 +1,10 @@
 -- `pieces::next_word_at` meets its contract. The loop's invariant: the gap behind `at` leads to the next word from the place
 -- that was given.
 use Prim.Native.Nat.{◌+◌, ◌-◌, ◌≤◌}
-use mathlib.Core.Path.{◌≡◌, sym, ◌∙◌}
-use native.Mathlib.Omega.{arith}
+use mathlib.Core.Path.{◌≡◌}
 use lib.ListN.{length, drop}
 use Rattle.pieces.specs.Pieces.{pieces}
 use Rattle.pieces.specs.Next.{gap, next_word_at}
-use Rattle.pieces.proofs.Scan.{gap_at_letter, gap_at_other, gap_at_end}
 use Rattle.pieces.proofs.next_word_at.Given as goal
 
 abbrev pub invariant-loop-at : goal.invariant-loop-at

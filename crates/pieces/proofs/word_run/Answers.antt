@@ -1,4 +1,4 @@
-use Prim.Native.Nat.{◌+◌, ◌-◌}
+use Prim.Native.Nat.{◌+◌}
 use mathlib.Core.Path.{◌≡◌, refl, sym, ap, ◌∙◌}
 use mathlib.Core.Bool.{true, ◌&&◌, and-true, and_assoc}
 use native.Mathlib.Omega.{arith}
@@ -6,7 +6,6 @@ use lib.ListN.{length, drop, get_or}
 use lib.Dec.{leb}
 use Rattle.paper.specs.Words.{all_small}
 use Rattle.pieces.specs.Pieces.{is_letter, leading}
-use Rattle.pieces.specs.Next.{word_end}
 use Rattle.pieces.specs.Lowered.{small_letter}
 use Rattle.pieces.proofs.Scan.{leading_at_letter, leading_at_other, leading_at_end}
 use Rattle.pieces.proofs.word_run.Goals as goal

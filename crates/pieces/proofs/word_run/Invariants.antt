@@ -1,16 +1,12 @@
 -- `pieces::word_run` meets its contract. The loop's invariant: the leading letters behind `end` end where those from the place
 -- that was given end, and with `small` they tell whether all of those are small.
 use Prim.Native.Nat.{◌+◌, ◌-◌}
-use mathlib.Core.Path.{◌≡◌, refl, sym, ap, ◌∙◌}
-use mathlib.Core.Bool.{true, ◌&&◌, and-true, and_assoc}
-use native.Mathlib.Omega.{arith}
-use lib.ListN.{length, drop, get_or}
-use lib.Dec.{leb}
+use mathlib.Core.Path.{◌≡◌}
+use mathlib.Core.Bool.{◌&&◌}
+use lib.ListN.{length, drop}
 use Rattle.paper.specs.Words.{all_small}
-use Rattle.pieces.specs.Pieces.{is_letter, leading}
+use Rattle.pieces.specs.Pieces.{leading}
 use Rattle.pieces.specs.Next.{word_end}
-use Rattle.pieces.specs.Lowered.{small_letter}
-use Rattle.pieces.proofs.Scan.{leading_at_letter, leading_at_other, leading_at_end}
 use Rattle.pieces.proofs.word_run.Given as goal
 
 abbrev pub invariant-loop-end : goal.invariant-loop-end

@@ -3,7 +3,7 @@ use native.Mathlib.Omega.{arith}
 use mathlib.Core.Path.{◌≡◌, refl, sym, ap, ap₂, ◌∙◌}
 use mathlib.Core.List.{List, ◌++◌, append-nil}
 use lib.ListN.{length, take, set, get_or, length-set, length-replicate, get_or-replicate}
-use lib.Seq.{paste, paste-zero, paste-suc, take_all, drop-length}
+use lib.Seq.{paste-zero, paste-suc, take_all, drop-length}
 use Rattle.paper.specs.Words.{spaces}
 use Rattle.places.proofs.fill.Goals as goal
 use Rattle.places.proofs.fill.Invariants.{spaced}
@@ -55,20 +55,18 @@ pub loop-i-smaller : goal.loop-i-smaller
 loop-i-smaller c = simp length-set (omega arith)
 
 pub loop-i-preserved : goal.loop-i-preserved
-loop-i-preserved c = let at = c.loop-i in
-    let s = c in (
-      omega arith,
-      omega arith,
-      simp length-set at.invariant.2,
-      ap (λ (w : List ℕ). set w at.i 32) at.invariant.3
-          ∙ spaced_more s.args.place.now s.args.stem at.i at.invariant.0 (omega arith),
-    )
+loop-i-preserved c = let at = c.loop-i in (
+  omega arith,
+  omega arith,
+  simp length-set at.invariant.2,
+  ap (λ (w : List ℕ). set w at.i 32) at.invariant.3
+      ∙ spaced_more c.args.place.now c.args.stem at.i at.invariant.0 (omega arith),
+)
 
 pub shape_of-place : goal.shape_of-place
 shape_of-place c = c.loop-i.invariant.2
 
 pub returns : goal.returns
 returns c = let at = c.loop-i in
-    let s = c in
-    let end : at.i - s.args.stem ≡ length s.args.place.now - s.args.stem = omega arith in
-    at.invariant.3 ∙ ap (spaced s.args.place.now s.args.stem) end ∙ spaced_all s.args.place.now s.args.stem (omega arith)
+    let end : at.i - c.args.stem ≡ length c.args.place.now - c.args.stem = omega arith in
+    at.invariant.3 ∙ ap (spaced c.args.place.now c.args.stem) end ∙ spaced_all c.args.place.now c.args.stem (omega arith)

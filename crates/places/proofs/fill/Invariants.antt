@@ -1,10 +1,9 @@
 -- `places::fill` meets its contract: at the loop's head spaces stand in the places passed.
-use Prim.Native.Nat.{ℕ, suc, ◌+◌, ◌-◌, ◌≤◌, ◌<◌}
-use native.Mathlib.Omega.{arith}
-use mathlib.Core.Path.{◌≡◌, refl, sym, ap, ap₂, ◌∙◌}
-use mathlib.Core.List.{List, ◌++◌, append-nil}
-use lib.ListN.{length, take, set, get_or, length-set, length-replicate, get_or-replicate}
-use lib.Seq.{paste, paste-zero, paste-suc, take_all, drop-length}
+use Prim.Native.Nat.{ℕ, ◌-◌, ◌≤◌}
+use mathlib.Core.Path.{◌≡◌}
+use mathlib.Core.List.{List}
+use lib.ListN.{length}
+use lib.Seq.{paste}
 use Rattle.paper.specs.Words.{spaces}
 use Rattle.places.proofs.fill.Given as goal
 

@@ -1,8 +1,7 @@
-use Prim.Native.Nat.{◌+◌, ◌-◌, ◌≤◌}
+use Prim.Native.Nat.{◌+◌}
 use native.Mathlib.Numerals.{add-one}
 use native.Mathlib.Omega.{arith}
 use mathlib.Core.Path.{◌≡◌, refl, sym, ap, ◌∙◌}
-use mathlib.Core.Logic.{⊎_elim}
 use borrow.Author.Tests.{lt-leb}
 use lib.ListN.{length, get_or, set, length-set}
 use lib.Seq.{paste, paste-zero, paste-suc, set-get_or}
@@ -12,19 +11,17 @@ use Rattle.places.proofs.put.Goals.{else-place-at, then-place-at}
 
 pub returns-then-place-letters : goal.returns-then-place-letters
 unfolding put_at
-returns-then-place-letters c = let s = c in rw (lt-leb (s.args.at + length s.args.letters.now) (length s.args.place.now) (omega arith))
+returns-then-place-letters c = rw (lt-leb (c.args.at + length c.args.letters.now) (length c.args.place.now) (omega arith))
 
 pub overflow_sub-place : goal.overflow_sub-place
 overflow_sub-place c = omega arith
 
 pub returns-then-place-letters-2 : goal.returns-then-place-letters-2
 unfolding put_at
-returns-then-place-letters-2 c = let s = c in
-    rw (lt-leb (s.args.at + length s.args.letters.now) (length s.args.place.now) (omega arith))
+returns-then-place-letters-2 c = rw (lt-leb (c.args.at + length c.args.letters.now) (length c.args.place.now) (omega arith))
 
 pub loop-i-init : goal.loop-i-init
-loop-i-init c = let s = c in
-    (omega arith, omega arith, refl, paste-zero s.args.place.now s.args.at s.args.letters.now)
+loop-i-init c = (omega arith, omega arith, refl, paste-zero c.args.place.now c.args.at c.args.letters.now)
 
 pub overflow_add-at : goal.overflow_add-at
 overflow_add-at c = omega arith
@@ -52,11 +49,10 @@ loop-i-smaller c = omega arith
 
 pub loop-i-preserved : goal.loop-i-preserved
 loop-i-preserved c = let now-at = c.loop-i in
-    let s = c in
-    let letters = s.args.letters.now in
-    let stored = paste-suc s.args.place.now s.args.at letters now-at.i 0 (omega arith) (omega arith) in
-    let written : c.if-place-at.place ≡ set now-at.place (s.args.at + now-at.i) (get_or letters now-at.i 0) =
-    elim c.if-place-at.branch [ then-place-at w ↦ cc | else-place-at w ↦ cc (set-get_or now-at.place (s.args.at + now-at.i) 0) ] in (
+    let letters = c.args.letters.now in
+    let stored = paste-suc c.args.place.now c.args.at letters now-at.i 0 (omega arith) (omega arith) in
+    let written : c.if-place-at.place ≡ set now-at.place (c.args.at + now-at.i) (get_or letters now-at.i 0) =
+    elim c.if-place-at.branch [ then-place-at w ↦ cc | else-place-at w ↦ cc (set-get_or now-at.place (c.args.at + now-at.i) 0) ] in (
       omega arith,
       now-at.invariant.1,
       rw written (simp length-set now-at.invariant.2),

@@ -1,13 +1,8 @@
 -- `places::put` meets its contract: at the loop's head the letters passed are in their places.
 use Prim.Native.Nat.{◌+◌, ◌-◌, ◌≤◌}
-use native.Mathlib.Numerals.{add-one}
-use native.Mathlib.Omega.{arith}
-use mathlib.Core.Path.{◌≡◌, refl, sym, ap, ◌∙◌}
-use mathlib.Core.Logic.{⊎_elim}
-use borrow.Author.Tests.{lt-leb}
-use lib.ListN.{length, get_or, set, length-set}
-use lib.Seq.{paste, paste-zero, paste-suc, set-get_or}
-use Rattle.places.specs.Put.{put_at, put_fits}
+use mathlib.Core.Path.{◌≡◌}
+use lib.ListN.{length}
+use lib.Seq.{paste}
 use Rattle.places.proofs.put.Given as goal
 
 abbrev pub invariant-loop-i : goal.invariant-loop-i

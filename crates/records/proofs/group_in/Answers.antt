@@ -3,7 +3,6 @@ use borrow.Author.Tests.{eq-eqb, ne_eqb, lt-ltb, le-ltb}
 use Rattle.records.specs.Framing.{number}
 use Rattle.records.specs.Records.{gate_number, faulty_group}
 use Rattle.records.specs.RecordAnswers.{group_record}
-use borrow.Author.Rules.{rules}
 use Rattle.records.proofs.group_in.Goals as goal
 
 pub returns-then-body-ne2 : goal.returns-then-body-ne2

@@ -10,7 +10,6 @@ use Rattle.records.specs.declared.Record.TheVariants.{End, Faulty}
 use Rattle.records.specs.FramingLaws.{FramedAt, framed}
 use Rattle.records.specs.RecordAnswers.{group_record, rule_record, end_record, record_at}
 use Rattle.records.specs.FrameCases.{frame_cut, frame_group, frame_rule, frame_end, frame_other, end_judged}
-use borrow.Author.Rules.{rules}
 use Rattle.records.proofs.record_at.Goals as goal
 use Rattle.records.proofs.record_at.Goals.{In-Whole}
 
@@ -64,8 +63,7 @@ returns-then-kind-ne3 c = frame_other group_record rule_record end_record _ _ (f
     c.if-kind-eq1.false c.if-kind-eq2.false c.if-kind-ne3.true
 
 pub returns-then-faulty_end : goal.returns-then-faulty_end
-returns-then-faulty_end c = let third = c in
-    end_by _ _ (frame-of (goal.at.returns-then-faulty_end c).In-Whole) third.if-kind-ne3.false (sym c.faulty_end.ensures ∙ c.if-faulty_end.true)
+returns-then-faulty_end c = end_by _ _ (frame-of (goal.at.returns-then-faulty_end c).In-Whole) c.if-kind-ne3.false (sym c.faulty_end.ensures ∙ c.if-faulty_end.true)
 
 pub returns-in-Cut : goal.returns-in-Cut
 unfolding record_at
@@ -74,5 +72,4 @@ returns-in-Cut c = let args = c.args in
     frame_cut group_record rule_record end_record args.sheet.now args.at short
 
 pub returns-else-faulty_end : goal.returns-else-faulty_end
-returns-else-faulty_end c = let third = c in
-    end_by _ _ (frame-of (goal.at.returns-else-faulty_end c).In-Whole) third.if-kind-ne3.false (sym c.faulty_end.ensures ∙ c.if-faulty_end.false)
+returns-else-faulty_end c = end_by _ _ (frame-of (goal.at.returns-else-faulty_end c).In-Whole) c.if-kind-ne3.false (sym c.faulty_end.ensures ∙ c.if-faulty_end.false)

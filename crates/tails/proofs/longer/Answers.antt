@@ -4,7 +4,6 @@ use Prim.Native.Nat.{ℕ, max}
 use mathlib.Core.Path.{◌≡◌}
 use mathlib.Core.List.{List}
 use native.Mathlib.Omega.{arith}
-use borrow.Author.Rules.{rules}
 use Rattle.paper.specs.Nodes.{tails}
 use Rattle.paper.specs.LookBack.{shared}
 use Rattle.paper.specs.SharedTails.{Stop, shared-below}

@@ -3,7 +3,6 @@ use mathlib.Core.Path.{◌≡◌, refl, sym, ap, ◌∙◌}
 use mathlib.Core.Bool.{true, false}
 use mathlib.Core.List.{List, [], ◌∷◌, ◌++◌}
 use native.Mathlib.Omega.{arith}
-use borrow.Author.Rules.{rules}
 use lib.ListN.{take, drop}
 use Rattle.paper.specs.Nodes.{tails, member}
 use Rattle.paper.specs.LookBack.{shared, shared-append}
@@ -83,12 +82,11 @@ pub loop-left-smaller : goal.loop-left-smaller
 loop-left-smaller c = omega arith
 
 pub loop-left-preserved : goal.loop-left-preserved
-loop-left-preserved c = let found = c in
-    let turn = found.loop-left in
-    let args = found.args in
+loop-left-preserved c = let turn = c.loop-left in
+    let args = c.args in
     let step =
     one_less args.ending.now turn.left args.sheet.now c.ending_in.result.now turn.place
-    found.loop-left-test.true (frame-of (goal.at.loop-left-preserved c).In-Whole) c.ending_in.ensures in
+    c.loop-left-test.true (frame-of (goal.at.loop-left-preserved c).In-Whole) c.ending_in.ensures in
     let so_far = turn.invariant in
     let one = c.longer-longest.ensures in
     omega arith

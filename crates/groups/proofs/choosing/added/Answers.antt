@@ -1,5 +1,4 @@
 -- `groups::choosing::added` meets its contract.
-use borrow.Author.Rules.{rules}
 use native.Mathlib.Omega.{arith}
 use Rattle.rules.specs.Rows.{added_at}
 use Rattle.groups.proofs.choosing.added.Goals as goal

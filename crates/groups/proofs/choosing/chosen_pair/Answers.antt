@@ -1,6 +1,5 @@
 -- `groups::choosing::chosen_pair` meets its contract: a rule before the pair ends the word, or the first of the pair that holds is obeyed.
 use Prim.Native.Nat.{◌+◌, ◌-◌}
-use borrow.Author.Rules.{rules}
 use borrow.Author.Tests.{lt-ltb, le-ltb}
 use native.Mathlib.Omega.{arith}
 use mathlib.Core.Path.{◌≡◌, sym, ap, ◌∙◌}
@@ -44,12 +43,11 @@ module _
       ∙ second_of_pair _ group c.args.to _ paired known_none_earlier (known_first_fails noted)
 
 pub returns-then-rule-pair : goal.returns-then-rule-pair
-returns-then-rule-pair c = let s = c in
-    let found = c.fitting-rule in record {
-      upper_bound = omega (arith, c.if-rule-pair.true);
-      chosen_paired = λ group noted paired. rw (lt-ltb found.result s.args.to (omega (arith, c.if-rule-pair.true)))
-          (earlier_found _ group s.args.to _ paired _ found.ensures c.if-rule-pair.true);
-    }
+returns-then-rule-pair c = let found = c.fitting-rule in record {
+  upper_bound = omega (arith, c.if-rule-pair.true);
+  chosen_paired = λ group noted paired. rw (lt-ltb found.result c.args.to (omega (arith, c.if-rule-pair.true)))
+      (earlier_found _ group c.args.to _ paired _ found.ensures c.if-rule-pair.true);
+}
 
 pub returns-then-allowed : goal.returns-then-allowed
 returns-then-allowed c = let a = (goal.at.returns-then-allowed c).After-allowed in

@@ -1,4 +1,4 @@
-use Prim.Native.Nat.{ℕ, ◌+◌, ◌-◌, ◌<◌}
+use Prim.Native.Nat.{ℕ, ◌+◌, ◌<◌}
 use native.Mathlib.Omega.{arith}
 use native.Mathlib.Decide.{dec_lt}
 use mathlib.Core.Path.{◌≡◌, sym, ap, ◌∙◌}
@@ -38,9 +38,8 @@ pub loop-rule-smaller : goal.loop-rule-smaller
 loop-rule-smaller c = omega arith
 
 pub loop-rule-preserved : goal.loop-rule-preserved
-loop-rule-preserved c = let s = c in
-    let at = c.loop-rule in
-    none_next s.args.word.now (rule_at s.args.rules.now) s.args.from at.rule at.invariant
+loop-rule-preserved c = let at = c.loop-rule in
+    none_next c.args.word.now (rule_at c.args.rules.now) c.args.from at.rule at.invariant
     (sym c.fits.ensures ∙ c.if-fits.false)
 
 pub returns : goal.returns

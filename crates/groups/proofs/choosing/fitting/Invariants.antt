@@ -1,11 +1,5 @@
 -- `groups::choosing::fitting` meets its contract: at the loop's head none of the rules passed ends the word.
-use Prim.Native.Nat.{ℕ, ◌+◌, ◌-◌, ◌<◌}
-use native.Mathlib.Omega.{arith}
-use native.Mathlib.Decide.{dec_lt}
-use mathlib.Core.Path.{◌≡◌, sym, ap, ◌∙◌}
-use mathlib.Core.Bool.{false}
-use mathlib.Core.List.{List}
-use Rattle.paper.specs.Groups.{Rule, ends_with}
+use Prim.Native.Nat.{◌-◌}
 use Rattle.paper.specs.FirstFits.{NoneFits}
 use Rattle.rules.specs.Rows.{rule_at}
 use Rattle.groups.proofs.choosing.fitting.Given as goal

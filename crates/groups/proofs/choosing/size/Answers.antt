@@ -1,5 +1,4 @@
 -- `groups::choosing::size` meets its contract.
-use borrow.Author.Rules.{rules}
 use native.Mathlib.Omega.{arith}
 use Rattle.rules.specs.Rows.{size_at}
 use Rattle.groups.proofs.choosing.size.Goals as goal

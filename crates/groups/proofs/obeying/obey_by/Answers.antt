@@ -1,5 +1,4 @@
 -- `groups::obeying::obey_by` meets its contract: what was put follows the part, and the scan of its letters goes on from the part's state.
-use borrow.Author.Rules.{rules}
 use borrow.Author.Tests.{le-ltb, eq-eqb, ne_eqb}
 use native.Mathlib.Omega.{arith}
 use mathlib.Core.Path.{sym, ap, ◌∙◌}
@@ -37,12 +36,9 @@ slice_bounds-renew-end-2 c = sym (length-take-le _ c.put.new.place (omega arith)
 
 pub returns : goal.returns
 returns c stands bound = let renew = c.renew in
-    let put = c in
-    let parts = put in
-    let tests = parts in
-    let args = tests.args in
+    let args = c.args in
     let table = args.rules.now in
-    let letters = written_read table args.rule (omega (arith, tests)) _ put.added.ensures.value in
-    written_there table args.to args.rule (omega (arith, tests)) (omega (arith, tests)) stands (ne_eqb _ _ tests.if-rules-rule-eq1.false)
-    (omega (arith, parts)) tests.cut-left.ensures (omega (arith, parts))
-    (put.put.ensures ∙ ap (put_at args.word.now _) letters) (omega arith) (omega arith) renew.ensures
+    let letters = written_read table args.rule (omega (arith, c)) _ c.added.ensures.value in
+    written_there table args.to args.rule (omega (arith, c)) (omega (arith, c)) stands (ne_eqb _ _ c.if-rules-rule-eq1.false)
+    (omega (arith, c)) c.cut-left.ensures (omega (arith, c))
+    (c.put.ensures ∙ ap (put_at args.word.now _) letters) (omega arith) (omega arith) renew.ensures

@@ -1,5 +1,4 @@
 -- `lines::parts::read_close` meets its contract.
-use borrow.Author.Rules.{rules}
 use mathlib.Core.Path.{sym, ◌∙◌}
 use Rattle.paper.specs.Letters.{letters}
 use Rattle.lines.specs.Reading.{close_in}
@@ -11,10 +10,8 @@ returns-then-starts c = rw (sym c.starts.ensures ∙ c.if-starts.true)
 
 pub returns-then-starts-2 : goal.returns-then-starts-2
 unfolding close_in letters
-returns-then-starts-2 c = let first = c in
-    rw (sym first.starts.ensures ∙ first.if-starts.false, sym c.starts-2.ensures ∙ c.if-starts-2.true)
+returns-then-starts-2 c = rw (sym c.starts.ensures ∙ c.if-starts.false, sym c.starts-2.ensures ∙ c.if-starts-2.true)
 
 pub returns : goal.returns
 unfolding close_in letters
-returns c = let first = c in
-    rw (sym first.starts.ensures ∙ first.if-starts.false, sym c.starts-2.ensures ∙ c.if-starts-2.false)
+returns c = rw (sym c.starts.ensures ∙ c.if-starts.false, sym c.starts-2.ensures ∙ c.if-starts-2.false)

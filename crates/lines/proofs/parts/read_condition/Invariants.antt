@@ -1,9 +1,7 @@
 -- `lines::parts::read_condition` meets its contract: at the loop's head no condition of `below` or a higher number begins the bytes.
 use Prim.Native.Nat.{◌≤◌}
-use mathlib.Core.Path.{◌≡◌, refl, sym, ◌∙◌}
-use native.Mathlib.Omega.{arith}
+use mathlib.Core.Path.{◌≡◌}
 use Rattle.lines.specs.Reading.{spelled_in}
-use Rattle.lines.specs.PartLaws.{spelled_here, spelled_later}
 use Rattle.lines.proofs.parts.read_condition.Given as goal
 
 abbrev pub invariant-loop-below : goal.invariant-loop-below

@@ -1,5 +1,4 @@
 -- `lines::parts::read_head` meets its contract.
-use borrow.Author.Rules.{rules}
 use mathlib.Core.Path.{sym, ◌∙◌}
 use Rattle.paper.specs.Letters.{letters}
 use Rattle.lines.specs.Reading.{head_in}
@@ -11,12 +10,9 @@ returns-then-starts c = rw (sym c.starts.ensures ∙ c.if-starts.true)
 
 pub returns-then-starts-2 : goal.returns-then-starts-2
 unfolding head_in letters
-returns-then-starts-2 c = let first = c in
-    rw (sym first.starts.ensures ∙ first.if-starts.false, sym c.starts-2.ensures ∙ c.if-starts-2.true)
+returns-then-starts-2 c = rw (sym c.starts.ensures ∙ c.if-starts.false, sym c.starts-2.ensures ∙ c.if-starts-2.true)
 
 pub returns : goal.returns
 unfolding head_in letters
-returns c = let second = c in
-    let first = second in
-    rw (sym first.starts.ensures ∙ first.if-starts.false, sym second.starts-2.ensures ∙ second.if-starts-2.false)
+returns c = rw (sym c.starts.ensures ∙ c.if-starts.false, sym c.starts-2.ensures ∙ c.if-starts-2.false)
     c.read_condition.ensures

@@ -1,5 +1,4 @@
 -- `lines::parts::read_part` meets its contract.
-use borrow.Author.Rules.{rules}
 use borrow.Author.Tests.{lt-ltb, le-ltb}
 use mathlib.Core.Path.{sym, ◌∙◌}
 use Rattle.paper.specs.Letters.{letters}
@@ -12,10 +11,8 @@ returns-then-count-gt0 c = rw (← c.first_other-count.ensures, lt-ltb _ _ c.if-
 
 pub returns-then-starts : goal.returns-then-starts
 unfolding part_in letters
-returns-then-starts c = let first = c in
-    rw (← first.first_other-count.ensures, le-ltb _ _ first.if-count-gt0.false, sym c.starts.ensures ∙ c.if-starts.true)
+returns-then-starts c = rw (← c.first_other-count.ensures, le-ltb _ _ c.if-count-gt0.false, sym c.starts.ensures ∙ c.if-starts.true)
 
 pub returns : goal.returns
 unfolding part_in letters
-returns c = let first = c in
-    rw (← first.first_other-count.ensures, le-ltb _ _ first.if-count-gt0.false, sym c.starts.ensures ∙ c.if-starts.false)
+returns c = rw (← c.first_other-count.ensures, le-ltb _ _ c.if-count-gt0.false, sym c.starts.ensures ∙ c.if-starts.false)

@@ -1,7 +1,6 @@
-use Prim.Native.Nat.{◌-◌, ◌≤◌}
 use native.Mathlib.Omega.{arith}
-use mathlib.Core.Path.{◌≡◌, refl, sym, ◌∙◌}
-use lib.ListN.{length, drop, drop_of_length-le}
+use mathlib.Core.Path.{refl, sym, ◌∙◌}
+use lib.ListN.{drop_of_length-le}
 use Rattle.lines.specs.Reading.{starts_with}
 use Rattle.lines.specs.PartLaws.{starts_short, starts_on, starts_not}
 use Rattle.lines.proofs.parts.starts.Goals as goal

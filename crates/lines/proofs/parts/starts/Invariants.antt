@@ -1,10 +1,8 @@
 -- `lines::parts::starts` meets its contract: at the loop's head the bytes passed are the same, so the rest of both decides.
 use Prim.Native.Nat.{◌-◌, ◌≤◌}
-use native.Mathlib.Omega.{arith}
-use mathlib.Core.Path.{◌≡◌, refl, sym, ◌∙◌}
-use lib.ListN.{length, drop, drop_of_length-le}
+use mathlib.Core.Path.{◌≡◌}
+use lib.ListN.{length, drop}
 use Rattle.lines.specs.Reading.{starts_with}
-use Rattle.lines.specs.PartLaws.{starts_short, starts_on, starts_not}
 use Rattle.lines.proofs.parts.starts.Given as goal
 
 abbrev pub invariant-loop-i : goal.invariant-loop-i

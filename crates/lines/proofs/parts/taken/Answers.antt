@@ -1,5 +1,4 @@
 -- `lines::parts::taken` meets its contract.
-use borrow.Author.Rules.{rules}
 use mathlib.Core.Path.{sym, ◌∙◌}
 use Rattle.lines.specs.Reading.{taken_by}
 use Rattle.lines.proofs.parts.taken.Goals as goal

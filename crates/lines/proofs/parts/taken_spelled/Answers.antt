@@ -1,5 +1,4 @@
 -- `lines::parts::taken_spelled` meets its contract: each arm has the spelling of its number.
-use borrow.Author.Rules.{rules}
 use Prim.Native.Nat.{ℕ, ◌≤◌, ◌<◌}
 use mathlib.Core.Path.{◌≡◌}
 use native.Mathlib.Omega.{arith}
@@ -49,9 +48,8 @@ returns-in-7 c = rw c.in-7.is c.taken-in-7.ensures
 
 pub returns-in_default : goal.returns-in_default
 unfolding spelled spelling spellings letters
-returns-in_default c = let entry = c in
-    let others = c.in_default.in_default-own.rest in
+returns-in_default c = let others = c.in_default.in_default-own.rest in
     let later = others.0.0.0.0 in
-    let high = from_4 entry.args.number later.0.0.0.1 later.0.0.1 later.0.1 later.1 in
-    let last = from_8 entry.args.number entry.requires high others.0.0.0.1 others.0.0.1 others.0.1 others.1 in
+    let high = from_4 c.args.number later.0.0.0.1 later.0.0.1 later.0.1 later.1 in
+    let last = from_8 c.args.number c.requires high others.0.0.0.1 others.0.0.1 others.0.1 others.1 in
     rw last c.taken-in_default.ensures

@@ -9,7 +9,6 @@ use lib.ListN.{length, get_or, drop, length-drop}
 use lib.Seq.{get_or-drop}
 use Rattle.records.specs.declared.framing.Frame.TheVariants.{Whole, Cut}
 use Rattle.records.specs.Framing.{number, body_length, kind, record_length, cut, body_place, next_place, frame_at}
-use borrow.Author.Rules.{rules}
 use Rattle.records.proofs.framing.frame_at.Goals as goal
 use Rattle.records.proofs.framing.frame_at.Goals.{After-pair-size}
 
@@ -65,5 +64,4 @@ pub returns-then-len-body : goal.returns-then-len-body
 returns-then-len-body c = no_body _ _ _ c.pair-size.ensures.value (long (goal.at.returns-then-len-body c).After-pair-size) c.if-len-body.true
 
 pub returns : goal.returns
-returns c = let first = c in
-    not_cut _ _ _ first.pair-size.ensures.value (long (goal.at.returns c).After-pair-size) c.if-len-body.false _ c.pair-kind.ensures.value
+returns c = not_cut _ _ _ c.pair-size.ensures.value (long (goal.at.returns c).After-pair-size) c.if-len-body.false _ c.pair-kind.ensures.value

@@ -6,7 +6,6 @@ use native.Mathlib.Omega.{arith}
 use lib.ListN.{length, take, drop, length-drop, drop_of_length-le}
 use lib.Seq.{take_all, take-nil}
 use Rattle.records.specs.Records.{ending_length, ending}
-use borrow.Author.Rules.{rules}
 use Rattle.records.proofs.rules.ending_in.Goals as goal
 
 module _ (body : List ℕ) where

@@ -1,5 +1,4 @@
 -- `records::rules::faulty_letters` meets its contract, by what `has_other` ensures.
-use borrow.Author.Rules.{rules}
 use Rattle.records.proofs.rules.faulty_letters.Goals as goal
 
 pub returns : goal.returns

@@ -1,7 +1,6 @@
 -- `records::rules::has_other` meets its contract: the first byte outside a to z stands before the end.
 use Rattle.paper.specs.WordsLaws.{other_inside}
 use Rattle.records.specs.Records.{outside}
-use borrow.Author.Rules.{rules}
 use Rattle.records.proofs.rules.has_other.Goals as goal
 
 pub returns : goal.returns

@@ -14,7 +14,6 @@ use Rattle.records.specs.declared.Record.TheVariants.{Rule, Faulty}
 use Rattle.records.specs.Records.{condition, action_number, opens_number, ending_length, ending, replacement, ending_place}
 use Rattle.records.specs.Records.{replacement_place, outside, faulty_numbers, faulty_letters, faulty_action, faulty_rule}
 use Rattle.records.specs.RecordAnswers.{rule_record}
-use borrow.Author.Rules.{rules}
 use Rattle.records.proofs.rules.rule_in.Goals as goal
 use Rattle.records.proofs.rules.rule_in.Goals.{After-above, After-faulty_action, After-faulty_letters, Else-above, Else-faulty_letters}
 
@@ -129,15 +128,12 @@ pub returns-then-faulty_letters : goal.returns-then-faulty_letters
 returns-then-faulty_letters c = by_letters _ _ (numbers-sound (goal.at.returns-then-faulty_letters c).Else-above (numbers (goal.at.returns-then-faulty_letters c).After-above)) (sym (letters-test (goal.at.returns-then-faulty_letters c).After-faulty_letters) ∙ c.if-faulty_letters.true)
 
 pub returns-then-faulty_action : goal.returns-then-faulty_action
-returns-then-faulty_action c = let past = c in
-    by_action _ _ (numbers-sound (goal.at.returns-then-faulty_action c).Else-above (numbers (goal.at.returns-then-faulty_action c).After-above)) (letters-sound (goal.at.returns-then-faulty_action c).Else-faulty_letters (letters-test (goal.at.returns-then-faulty_action c).After-faulty_letters))
+returns-then-faulty_action c = by_action _ _ (numbers-sound (goal.at.returns-then-faulty_action c).Else-above (numbers (goal.at.returns-then-faulty_action c).After-above)) (letters-sound (goal.at.returns-then-faulty_action c).Else-faulty_letters (letters-test (goal.at.returns-then-faulty_action c).After-faulty_letters))
     (sym (action-test (goal.at.returns-then-faulty_action c).After-faulty_action) ∙ c.if-faulty_action.true)
 
 pub overflow_add-middle : goal.overflow_add-middle
 overflow_add-middle c = let within = s1-fits (goal.at.overflow_add-middle c).Else-above in omega arith
 
 pub returns : goal.returns
-returns c = let past = c in
-    let tests = past in
-    read _ _ (numbers-sound (goal.at.returns c).Else-above (numbers (goal.at.returns c).After-above)) (letters-sound (goal.at.returns c).Else-faulty_letters (letters-test (goal.at.returns c).After-faulty_letters)) _ tests.wide-n.ensures.value
+returns c = read _ _ (numbers-sound (goal.at.returns c).Else-above (numbers (goal.at.returns c).After-above)) (letters-sound (goal.at.returns c).Else-faulty_letters (letters-test (goal.at.returns c).After-faulty_letters)) _ c.wide-n.ensures.value
     (sym (action-test (goal.at.returns c).After-faulty_action) ∙ c.if-faulty_action.false)

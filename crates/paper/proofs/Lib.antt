@@ -1,0 +1,3 @@
+-- What is shown of the shipped rules themselves.
+pub mod ShippedLaws
+pub mod Demand2
