@@ -1,5 +1,5 @@
 -- One answer for every list, and when it is which: 11, all right, or a first wrong line.
-use Rattle.std.specs.Prelude.{ℕ, suc, ◌+◌, ◌≤◌, ◌≡◌, refl, true, false, ◌↔◌, List, [], ◌∷◌, ◌++◌, length}
+use Rattle.std.specs.Prelude.{ℕ, suc, ◌≤◌, ◌≡◌, refl, true, false, ◌↔◌, List, [], ◌∷◌, ◌++◌, length}
 use Rattle.std.proofs.Common.{sym, ap, ◌∙◌, true≢false, append-nil, arith}
 use Rattle.paper.specs.Answered.{SmallWord}
 use Rattle.paper.specs.Groups.{done}

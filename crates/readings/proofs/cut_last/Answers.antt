@@ -45,22 +45,19 @@ pub slice_bounds-step_4-end : goal.slice_bounds-step_4-end
 slice_bounds-step_4-end c = sym (length-take-le _ _ (after-3 (goal.at.slice_bounds-step_4-end c).After-step_3-after_3).0)
 
 pub step_4-after_4-requires : goal.step_4-after_4-requires
-step_4-after_4-requires c = let s = c in
-    noted_part s.args.word.now s.args.states.now s.requires _ (after-3 (goal.at.step_4-after_4-requires c).After-step_3-after_3).0
+step_4-after_4-requires c = noted_part c.args.word.now c.args.states.now c.requires _ (after-3 (goal.at.step_4-after_4-requires c).After-step_3-after_3).0
 
 pub slice_bounds-step_5a-end : goal.slice_bounds-step_5a-end
 slice_bounds-step_5a-end c = sym (length-take-le _ _ (after-4 (goal.at.slice_bounds-step_5a-end c).After-step_4-after_4 (after-3 (goal.at.slice_bounds-step_5a-end c).After-step_3-after_3)).0)
 
 pub step_5a-after_5a-requires : goal.step_5a-after_5a-requires
-step_5a-after_5a-requires c = let s = c in
-    noted_part s.args.word.now s.args.states.now s.requires _ (after-4 (goal.at.step_5a-after_5a-requires c).After-step_4-after_4 (after-3 (goal.at.step_5a-after_5a-requires c).After-step_3-after_3)).0
+step_5a-after_5a-requires c = noted_part c.args.word.now c.args.states.now c.requires _ (after-4 (goal.at.step_5a-after_5a-requires c).After-step_4-after_4 (after-3 (goal.at.step_5a-after_5a-requires c).After-step_3-after_3)).0
 
 pub slice_bounds-step_5b-end : goal.slice_bounds-step_5b-end
 slice_bounds-step_5b-end c = sym (length-take-le _ _ (after-5a (goal.at.slice_bounds-step_5b-end c).After-step_5a-after_5a (after-4 (goal.at.slice_bounds-step_5b-end c).After-step_4-after_4 (after-3 (goal.at.slice_bounds-step_5b-end c).After-step_3-after_3))).0)
 
 pub step_5b-requires : goal.step_5b-requires
-step_5b-requires c = let s = c in
-    noted_part s.args.word.now s.args.states.now s.requires _ (after-5a (goal.at.step_5b-requires c).After-step_5a-after_5a (after-4 (goal.at.step_5b-requires c).After-step_4-after_4 (after-3 (goal.at.step_5b-requires c).After-step_3-after_3))).0
+step_5b-requires c = noted_part c.args.word.now c.args.states.now c.requires _ (after-5a (goal.at.step_5b-requires c).After-step_5a-after_5a (after-4 (goal.at.step_5b-requires c).After-step_4-after_4 (after-3 (goal.at.step_5b-requires c).After-step_3-after_3))).0
 
 pub returns : goal.returns
 returns c = let before_it = after-5a (goal.at.returns c).After-step_5a-after_5a (after-4 (goal.at.returns c).After-step_4-after_4 (after-3 (goal.at.returns c).After-step_3-after_3)) in

@@ -1,6 +1,5 @@
 -- `readings::read` meets its contract: a word that is taken is noted and read; any other is as it came.
 use Prim.Native.Nat.{ℕ, ◌≤◌, ◌<◌}
-use borrow.Author.Rules.{rules}
 use borrow.Author.Tests.{lt-ltb, le-leb, ltb-false}
 use native.Mathlib.Omega.{arith}
 use mathlib.Core.Path.{◌≡◌, refl, sym, ap, ◌∙◌}
@@ -17,7 +16,7 @@ use Rattle.paper.specs.WordsLaws.{judged_by_lem}
 use Rattle.paper.specs.Noted.{states_of, states_after, Noted, length_after, noted_more}
 use Rattle.letters.specs.Notes.{noted}
 use Rattle.readings.proofs.read.Goals as goal
-use Rattle.readings.proofs.read.Goals.{After-states-3-1, Start}
+use Rattle.readings.proofs.read.Goals.{Else-word-other}
 
 -- the test before the reading is that of the word
 refuses : (size other : ℕ) → (eqb size 0 || (ltb 64 size || ltb other size)) ≡ true → taken ≡ judged_by size other → ⊥
@@ -54,40 +53,41 @@ notes word states after first room short all is =
     (noted_more [] word states 0 first refl (omega arith))
 
 -- once the test is passed
-module _ (c : After-states-3-1) where
-  abbrev s : Start
-  s = c
-
-  abbrev word : List ℕ
-  word = s.args.word.now
-
-  passed : (taken ≡ judged word) × ((length word ≤ 64) × (length word ≤ first_other word))
+module _ (c : Else-word-other) where
+  passed : (taken ≡ judged c.args.word.now)
+      × ((length c.args.word.now ≤ 64) × (length c.args.word.now ≤ first_other c.args.word.now))
   passed =
+      let word = c.args.word.now in
       let found = c.note-other.ensures.value in
       let says = takes (length word) _ c.if-word-other.false in
       (says.0 ∙ ap (judged_by (length word)) found ∙ judged_by_lem word, (says.1.0, omega (arith, says.1.1, found)))
 
 pub returns-then-word-other : goal.returns-then-word-other
-returns-then-word-other c = let word = c.args.word.now in
-    let found = c.note-other.ensures.value in let whole = (
-      found,
-      (
-        λ is-taken. absurd (refuses (length word) _ c.if-word-other.true (is-taken ∙ sym (ap (judged_by (length word)) found ∙ judged_by_lem word))),
-        λ other. refl,
-      ),
-    ) in record { other_value = whole.0; read_stands = whole.1; word_unchanged = whole.2 }
+returns-then-word-other c =
+    let word = c.args.word.now in
+    let found = c.note-other.ensures.value in
+    record {
+      other_value = found;
+      read_stands = λ is-taken. absurd (refuses (length word) _ c.if-word-other.true (is-taken ∙ sym (ap (judged_by (length word)) found ∙ judged_by_lem word)));
+      word_unchanged = λ other. refl;
+    }
 
 pub read_by-len-requires : goal.read_by-len-requires
-read_by-len-requires c = let made = c.note-other in
-    let at_most = (passed c).1 in
+read_by-len-requires c =
+    let made = c.note-other in
+    let at_most = (passed (goal.at.read_by-len-requires c).Else-word-other).1 in
     record {
       within = omega arith;
       short = at_most.0;
       room = made.auto.states;
-      noted = notes (word c) _ _ refl (omega (arith, at_most.0)) at_most.0 at_most.1 made.ensures.notes_after;
+      noted = notes c.args.word.now _ _ refl (omega (arith, at_most.0)) at_most.0 at_most.1 made.ensures.states_after;
     }
 
 pub returns : goal.returns
-returns c = let noted = c.note-other in
-    let ran = c.read_by-len in
-    let was-taken = (passed c).0 in let whole = (noted.ensures.value, (λ is-taken. ran.ensures, λ other. absurd (other was-taken))) in record { other_value = whole.0; read_stands = whole.1; word_unchanged = whole.2 }
+returns c =
+    let was-taken = (passed (goal.at.returns c).Else-word-other).0 in
+    record {
+      other_value = c.note-other.ensures.value;
+      read_stands = λ is-taken. c.read_by-len.ensures;
+      word_unchanged = λ other. absurd (other was-taken);
+    }

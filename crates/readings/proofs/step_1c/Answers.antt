@@ -1,5 +1,4 @@
 -- `readings::step_1c` meets its contract: the one ending of group 1c is y.
-use borrow.Author.Rules.{rules}
 use mathlib.Core.Path.{sym}
 use lib.ListN.{take}
 use lib.Seq.{length-take-le}
@@ -12,17 +11,14 @@ use Rattle.readings.proofs.Tests.{reads_1c, last_1c}
 use Rattle.readings.proofs.step_1c.Goals as goal
 
 pub slice_bounds-letter_at-end-2 : goal.slice_bounds-letter_at-end-2
-slice_bounds-letter_at-end-2 c = let s = c in sym (length-take-le _ _ s.requires.0.within)
+slice_bounds-letter_at-end-2 c = sym (length-take-le _ _ c.requires.stands.within)
 
 pub returns-then-letter_at-ne121 : goal.returns-then-letter_at-ne121
 unfolding letters
-returns-then-letter_at-ne121 c = let s = c in
-    let word = take s.args.len s.args.word.now in
-    stays group_1c s.requires.0
+returns-then-letter_at-ne121 c = let word = take c.args.len c.args.word.now in
+    stays group_1c c.requires.stands
     (none_last word (letters "y") group_1c last_1c (rw (← c.letter_at.ensures) (not_one _ 121 c.if-letter_at-ne121.true)))
 
 pub returns : goal.returns
-returns c = let ran = c in
-    let g = ran in
-    let pre = g.requires in
-    ran.write_by.ensures group_1c pre.0 (whole (reads_1c _ g.group_1c-rules.ensures)) pre.1
+returns c = let pre = c.requires in
+    c.write_by.ensures group_1c pre.stands (whole (reads_1c _ c.group_1c-rules.ensures)) pre.word_in_bounds

@@ -1,5 +1,4 @@
 -- `readings::step_3` meets its contract: a word that is too short or passes no filter obeys no rule of group 3.
-use borrow.Author.Rules.{rules}
 use Rattle.paper.specs.Shipped.{group_3}
 use Rattle.groups.specs.ReadsLaws.{kept_whole}
 use Rattle.blocks.specs.Indexes.{index_3, keeps_3}
@@ -12,16 +11,14 @@ returns-then-word-lt3 c = let word = c.args.word.now in
     kept_whole group_3 word (short_3 word c.if-word-lt3.true)
 
 pub within_3-requires : goal.within_3-requires
-within_3-requires c = let b = c in
-    let s = b in record {
-      noted = s.requires;
-      outside = block_asks group_3 index_3 keeps_3 _ _ _ _ _ b.block_3-block.ensures s.args.word.now b.letter_at.ensures
-          c.kept.ensures size_3 c.if-kept.true;
-    }
+within_3-requires c = record {
+  noted = c.requires;
+  outside = block_asks group_3 index_3 keeps_3 _ _ _ _ _ c.block_3-block.ensures c.args.word.now c.letter_at.ensures
+      c.kept.ensures size_3 c.if-kept.true;
+}
 
 pub returns : goal.returns
-returns c = let b = c in
-    let word = b.args.word.now in
+returns c = let word = c.args.word.now in
     kept_whole group_3 word
-    (block_fails group_3 index_3 keeps_3 _ _ _ _ _ b.block_3-block.ensures word b.letter_at.ensures
+    (block_fails group_3 index_3 keeps_3 _ _ _ _ _ c.block_3-block.ensures word c.letter_at.ensures
     c.kept.ensures c.if-kept.false)

@@ -1,5 +1,4 @@
 -- `readings::step_4` meets its contract: a word that is too short or passes no filter obeys no rule of group 4.
-use borrow.Author.Rules.{rules}
 use Rattle.paper.specs.Shipped.{group_4}
 use Rattle.groups.specs.ReadsLaws.{kept_whole}
 use Rattle.blocks.specs.Indexes.{index_4, keeps_4}
@@ -12,16 +11,14 @@ returns-then-word-lt3 c = let word = c.args.word.now in
     kept_whole group_4 word (short_4 word c.if-word-lt3.true)
 
 pub within_4-requires : goal.within_4-requires
-within_4-requires c = let b = c in
-    let s = b in record {
-      noted = s.requires;
-      outside = block_asks group_4 index_4 keeps_4 _ _ _ _ _ b.block_4-block.ensures s.args.word.now b.letter_at.ensures
-          c.kept.ensures size_4 c.if-kept.true;
-    }
+within_4-requires c = record {
+  noted = c.requires;
+  outside = block_asks group_4 index_4 keeps_4 _ _ _ _ _ c.block_4-block.ensures c.args.word.now c.letter_at.ensures
+      c.kept.ensures size_4 c.if-kept.true;
+}
 
 pub returns : goal.returns
-returns c = let b = c in
-    let word = b.args.word.now in
+returns c = let word = c.args.word.now in
     kept_whole group_4 word
-    (block_fails group_4 index_4 keeps_4 _ _ _ _ _ b.block_4-block.ensures word b.letter_at.ensures
+    (block_fails group_4 index_4 keeps_4 _ _ _ _ _ c.block_4-block.ensures word c.letter_at.ensures
     c.kept.ensures c.if-kept.false)

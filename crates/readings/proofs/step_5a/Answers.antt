@@ -1,5 +1,4 @@
 -- `readings::step_5a` meets its contract: both endings of group 5a are e.
-use borrow.Author.Rules.{rules}
 use native.Mathlib.Omega.{arith}
 use mathlib.Core.Path.{sym, ◌∙◌}
 use Rattle.paper.specs.Letters.{letters}
@@ -18,8 +17,6 @@ returns-then-letter_at-ne101 c = let word = c.args.word.now in
 
 pub returns : goal.returns
 unfolding letters
-returns c = let g = c in
-    let s = g in
-    let word = s.args.word.now in
-    let ends = ends_one word 101 (omega arith) (sym g.letter_at.ensures ∙ g.if-letter_at-ne101.false) in
-    c.cut_pair.ensures group_5a s.requires (paired_5a _ word g.group_5a-rules.ensures ends) cuts_5a
+returns c = let word = c.args.word.now in
+    let ends = ends_one word 101 (omega arith) (sym c.letter_at.ensures ∙ c.if-letter_at-ne101.false) in
+    c.cut_pair.ensures group_5a c.requires (paired_5a _ word c.group_5a-rules.ensures ends) cuts_5a

@@ -1,5 +1,4 @@
 -- `readings::step_5b` meets its contract: its one rule has the empty ending, and its condition asks for an l.
-use borrow.Author.Rules.{rules}
 use borrow.Author.Tests.{ne_eqb}
 use native.Mathlib.Omega.{arith}
 use Prim.Native.Nat.{ℕ, ◌-◌}
@@ -32,5 +31,4 @@ pub returns-then-letter_at-ne108 : goal.returns-then-letter_at-ne108
 returns-then-letter_at-ne108 c = kept_whole group_5b _ (other_letter _ (rw (← c.letter_at.ensures) c.if-letter_at-ne108.true))
 
 pub returns : goal.returns
-returns c = let g = c in
-    (c.cut_by-left.ensures group_5b g.requires (whole (reads_5b _ g.group_5b-rules.ensures)) cuts_5b).cut
+returns c = (c.cut_by-left.ensures group_5b c.requires (whole (reads_5b _ c.group_5b-rules.ensures)) cuts_5b).cut

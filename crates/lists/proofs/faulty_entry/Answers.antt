@@ -5,7 +5,6 @@ use mathlib.Core.Path.{◌≡◌, sym, ap, ◌∙◌}
 use mathlib.Core.Bool.{true, false, not, ◌&&◌, false≢true}
 use mathlib.Core.List.{List}
 use native.Mathlib.Omega.{arith}
-use borrow.Author.Rules.{rules}
 use borrow.Author.Tests.{le-ltb}
 use lib.Dec.{ltb}
 use lib.ListN.{length, take, drop, length-drop}
@@ -15,8 +14,7 @@ use Rattle.paper.specs.Words.{all_small, first_other}
 use Rattle.paper.specs.WordsLaws.{all_small_append, other_inside}
 use Rattle.lists.specs.Lists.{word_length, word_in, stem_in, entry_in, faulty_entry}
 use Rattle.lists.specs.EntryLaws.{allowed_is, behind, stem_length, word_length_lem, Sound, sound}
-use Rattle.lists.proofs.faulty_entry.Statement.{statement}
-use Rattle.lists.proofs.faulty_entry.Tie as tie
+use Rattle.lists.proofs.faulty_entry.Goals as goal
 
 module _ (body : List ℕ) where
   refuse : (Sound body → ⊥) → true ≡ faulty_entry body
@@ -54,29 +52,18 @@ module _ (body : List ℕ) where
         let whole = take_all (length body - 1) (drop 1 body) (omega arith) in
         rw (first_is, whole, ← size) (other_inside (drop 1 body) ∙ by_letters)
 
-returns : tie.Need-returns
-returns c = refuse _ (λ s. omega (arith, s.long, c.if1.true))
+pub returns-then-size-eq0 : goal.returns-then-size-eq0
+returns-then-size-eq0 c = refuse _ (λ s. omega (arith, s.long, c.if-size-eq0.true))
 
-returns-2 : tie.Need-returns-2
-returns-2 c = refuse _ (λ s. omega (arith, s.is.most, s.word_size, c.before.wide.ensures.0, c.if2.true))
+pub returns-then-n-gt64 : goal.returns-then-n-gt64
+returns-then-n-gt64 c = refuse _ (λ s. omega (arith, s.is.most, s.word_size, c.wide-n.ensures.value, c.if-n-gt64.true))
 
-returns-3 : tie.Need-returns-3
-returns-3 c = refuse _ (λ s. omega (arith, s.is.some_stem, s.stem_size, c.before.before.wide.ensures.0, c.if3.true))
+pub returns-then-size-n : goal.returns-then-size-n
+returns-then-size-n c = refuse _ (λ s. omega (arith, s.is.some_stem, s.stem_size, c.wide-n.ensures.value, c.if-size-n.true))
 
-returns-4 : tie.Need-returns-4
-returns-4 c =
-    refuse _ (λ s. omega (arith, s.is.no_more, s.word_size, s.stem_size, c.before.before.before.wide.ensures.0, c.if4.true))
+pub returns-then-n-size : goal.returns-then-n-size
+returns-then-n-size c = refuse _ (λ s. omega (arith, s.is.no_more, s.word_size, s.stem_size, c.wide-n.ensures.value, c.if-n-size.true))
 
-returns-5 : tie.Need-returns-5
-returns-5 c =
-    let four = c.before.before in
-    let three = four.before in
-    judged _ three.before.before.wide.ensures.0 three.before.if2.false three.if3.false four.if4.false
-    c.first-other.ensures
-
-pub faulty-entry-spec : {M : Type 1} → statement M
-faulty-entry-spec =
-    tie.close
-    (tie.spec returns (λ c. search rules) (λ c κs. search rules) returns-2 (λ c. search rules) returns-3 (λ c. search rules)
-    (λ c. search rules) returns-4 (λ c. search rules) (λ c. search rules) (λ c. search rules) (λ c κs. search rules) (λ c. search rules)
-    returns-5)
+pub returns : goal.returns
+returns c = judged _ c.wide-n.ensures.value c.if-n-gt64.false c.if-size-n.false c.if-n-size.false
+    c.first_other.ensures

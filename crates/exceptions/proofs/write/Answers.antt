@@ -3,7 +3,6 @@ use Prim.Native.Nat.{ℕ, ◌+◌, ◌-◌, ◌≤◌}
 use mathlib.Core.Path.{◌≡◌, refl, sym, ap, subst, ◌∙◌}
 use mathlib.Core.List.{List, ◌++◌}
 use native.Mathlib.Omega.{arith}
-use borrow.Author.Rules.{rules}
 use lib.ListN.{length, take, drop, length-drop}
 use lib.Seq.{length-take-le}
 use Rattle.paper.specs.Words.{spaces, placed}
@@ -14,31 +13,18 @@ use Rattle.lists.specs.SearchLaws.{Stands, searched_stands, stem_room}
 use Rattle.lists.specs.declared.Place.{Place}
 use Rattle.lists.specs.declared.Place.TheVariants.{Listed}
 use Rattle.exceptions.specs.declared.Wrote.TheVariants.{Stem}
-use Rattle.exceptions.proofs.write.Statement.{statement}
-use Rattle.exceptions.proofs.write.Tie as tie
+use Rattle.exceptions.proofs.write.Goals as goal
+use Rattle.exceptions.proofs.write.Goals.{In-Listed}
 
 -- what the search tells
 told : (list word : List ℕ) {result place : Place} → result ≡ searched list word → result ≡ place
     → Stands list (find (passed list) word) place
 told list word ensures is = subst (Stands list (find (passed list) word)) (sym ensures ∙ is) (searched_stands list word)
 
-there : (c : tie.After-known-told)
-    → (let args = c.before.before.before.before.before.before.before.args in
-    let given = c.before.place.given.0 in
-    Stands args.list.now (find (passed args.list.now) args.word.now) (Listed given.0 given.1.0))
-there c = told _ _ c.before.before.before.search.ensures c.before.place.given.1
-
-sub-size : tie.Need-overflow-sub-size
-sub-size c = (there c).0
-
-sub-put : tie.Need-overflow-sub-put
-sub-put c = (there c.before).0
-
-part-put-start : tie.Need-slice-bounds-put-start
-part-put-start c = (there c.before).0
-
-part-put-end : tie.Need-slice-bounds-put-end
-part-put-end c = (there c.before).1
+there : (c : In-Listed)
+    → (let args = c.args in
+    Stands args.list.now (find (passed args.list.now) args.word.now) (Listed c.in-Listed.start c.in-Listed.end))
+there c = told _ _ c.search-place.ensures c.in-Listed.is
 
 -- a stem that has room, put first, and spaces behind it
 filled : (word stem put after : List ℕ) (size : ℕ) → size ≡ length stem → length stem ≤ length word → length put ≡ length word
@@ -53,26 +39,27 @@ filled word stem put after size is room same_length put_is after_is =
     in
     after_is ∙ rw (same_length, put_is, first, is) refl
 
-returns : tie.Need-returns
-returns c =
-    let known = c.before.before.before.before.before.before.before.before.before in
-    let put = c.before.before.before.before.before.before.put in
-    let args = known.before.before.before.before.before.before.before.args in
-    let start = known.before.place.given.0.0 in
-    let end = known.before.place.given.0.1.0 in
-    let is = there known in
+pub overflow_sub-size : goal.overflow_sub-size
+overflow_sub-size c = (there (goal.at.overflow_sub-size c).In-Listed).0
+
+pub slice_bounds-put-count : goal.slice_bounds-put-count
+slice_bounds-put-count c = (there (goal.at.slice_bounds-put-count c).In-Listed).0
+
+pub slice_bounds-put-start : goal.slice_bounds-put-start
+slice_bounds-put-start c = (there (goal.at.slice_bounds-put-start c).In-Listed).0
+
+pub slice_bounds-put-end : goal.slice_bounds-put-end
+slice_bounds-put-end c = (there (goal.at.slice_bounds-put-end c).In-Listed).1
+
+pub returns-in-Listed : goal.returns-in-Listed
+returns-in-Listed c = let put = c.put in
+    let args = c.args in
+    let start = c.in-Listed.start in
+    let end = c.in-Listed.end in
+    let is = there (goal.at.returns-in-Listed c).In-Listed in
     let inside : end - start ≤ length (drop start args.list.now) = omega (arith, is.1, length-drop start args.list.now) in
     let size = sym (length-take-le (end - start) (drop start args.list.now) inside) in
-    let room = stem_room args.list.now args.word.now is.2 in
-    rw is.2 (ap Stem size, filled _ _ _ _ _ size room put.auto.0 put.ensures c.before.before.fill.ensures)
+    let room = stem_room args.list.now args.word.now is.2 in record { value = rw is.2 (ap Stem size); word_after = rw is.2 (filled _ _ _ _ _ size room put.auto.place put.ensures c.fill.ensures) }
 
-returns-2 : tie.Need-returns-2
-returns-2 c =
-    let is = told _ _ c.before.before.search.ensures c.enum_told.given.1 in
-    rw is (refl, refl)
-
-pub write_spec : {M : Type 1} → statement M
-write_spec =
-    tie.close
-    (tie.spec (λ c κs. search rules) (λ c. search rules) sub-size sub-put part-put-start part-put-end (λ c κs. search rules)
-    (λ c κs. search rules) (λ c. search rules) (λ c. search rules) returns (λ c. search rules) returns-2)
+pub returns-in-Unlisted : goal.returns-in-Unlisted
+returns-in-Unlisted c = let is = told _ _ c.search-place.ensures c.in-Unlisted.is in record { value = rw is refl; word_after = rw is refl }

@@ -3,7 +3,6 @@ use Prim.Native.Nat.{ℕ}
 use mathlib.Core.Path.{◌≡◌, refl}
 use mathlib.Core.List.{List}
 use mathlib.Core.Option.{Option, none, some}
-use borrow.Author.Rules.{rules}
 use Rattle.paper.specs.Groups.{Reading}
 use Rattle.paper.specs.Shipped.{shipped}
 use Rattle.paper.specs.TestLaws.{apart}
@@ -13,8 +12,7 @@ use Rattle.lists.specs.Searches.{passed}
 use Rattle.exceptions.specs.Judged.{wrote_of, left_by, answered_by, judged_outcome}
 use Rattle.exceptions.specs.declared.Wrote.{Wrote}
 use Rattle.exceptions.specs.declared.Wrote.TheVariants.{Stem, Nothing}
-use Rattle.exceptions.proofs.stem_by.Statement.{statement}
-use Rattle.exceptions.proofs.stem_by.Tie as tie
+use Rattle.exceptions.proofs.stem_by.Goals as goal
 
 module _ (rule : List ℕ → Reading) (word : List ℕ) {after : List ℕ} {wrote : Wrote} where
   -- a stem of so many letters was written
@@ -32,25 +30,14 @@ module _ (rule : List ℕ → Reading) (word : List ℕ) {after : List ℕ} {wro
   passed_on (some found) told left is gives = apart (cc)
   passed_on none told left is gives = rw left at gives
 
-returns : tie.Need-returns
+pub returns-in-Stem : goal.returns-in-Stem
 unfolding judged_outcome
-returns c =
-    let called = c.before.before.before.before.before in
-    let args = called.before.before.before.before.args in
-    written (stem shipped) args.word.now (find (passed args.list.now) args.word.now) called.write.ensures.0
-    called.write.ensures.1 c.before.wrote.given.1
+returns-in-Stem c = let args = c.args in
+    written (stem shipped) args.word.now (find (passed args.list.now) args.word.now) c.write-wrote.ensures.value
+    c.write-wrote.ensures.word_after c.in-Stem.is
 
-returns-2 : tie.Need-returns-2
+pub returns-in-Nothing : goal.returns-in-Nothing
 unfolding judged_outcome
-returns-2 c =
-    let told = c.before.before.before.before in
-    let called = told.before.before.before.before in
-    let args = called.before.before.before.before.args in
-    passed_on (stem shipped) args.word.now (find (passed args.list.now) args.word.now) called.write.ensures.0
-    called.write.ensures.1 told.enum_told.given.1 c.before.before.stem.ensures
-
-pub stem-by-spec : {M : Type 1} → statement M
-stem-by-spec =
-    tie.close
-    (tie.spec (λ c κs. search rules) (λ c. search rules) (λ c. search rules) (λ c κs. search rules) (λ c. search rules) returns
-    (λ c. search rules) returns-2)
+returns-in-Nothing c = let args = c.args in
+    passed_on (stem shipped) args.word.now (find (passed args.list.now) args.word.now) c.write-wrote.ensures.value
+    c.write-wrote.ensures.word_after c.in-Nothing.is c.stem.ensures
