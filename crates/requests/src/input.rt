@@ -1,10 +1,11 @@
-// Reading the parts of a request. `io::read_full` reads on after a short read, so a slow pipe gives
-// the same requests as a file.
-ghost use Rattle.std.specs.Prelude.{◌<◌, ◌^◌};
-ghost use Rattle.io.specs.Counts.{IsPrefixLen};
+// Reading the parts of a request. A part is read on after a short read, so a slow pipe gives the same requests as a file.
+// A read that fails is an error, and what was read of the part is lost.
+ghost use Rattle.std.specs.Prelude.{◌≡◌, ◌<◌, ◌^◌, length, IfOk, OnErr};
+ghost use Rattle.std.specs.Counts.{IsPrefixLen};
 
-use libc::STDIN_FILENO;
 use numbers::{pair, wide};
+use std::io;
+use std::io::Read;
 
 // How a request starts.
 #[derive(Drop)]
@@ -13,12 +14,12 @@ pub enum Start {
     Ended,
 }
 
-pub fn first_byte() -> Start {
+pub fn first_byte(input: &mut impl Read) -> io::Result<Start> {
     let mut one = [0u8; 1];
-    if io::read_full(STDIN_FILENO, &mut one) < 1 {
-        return Start::Ended;
+    if read_full(input, &mut one)? < 1 {
+        return Ok(Start::Ended);
     }
-    Start::With(one[0])
+    Ok(Start::With(one[0]))
 }
 
 // An argument that was read: how many bytes of it came, and whether that is all of it.
@@ -30,46 +31,49 @@ pub struct Argument {
 
 // The next argument, put at the start of `space`. It is not whole if the input ends in it, or if it
 // is longer than `space`, which is as long as such an argument may be.
-pub fn read(space: &mut [u8]) -> Argument
-    ensures { IsPrefixLen result.length space.new }
+pub fn read(input: &mut impl Read, space: &mut [u8]) -> io::Result<Argument>
+    ensures ok { IfOk result (λ argument. IsPrefixLen argument.length space.new) }
+    ensures err { OnErr result (length space.new ≡ length space.old) }
 {
-    let size = read_number();
-    let bytes = read_bytes(space, size.value);
-    Argument {
+    let size = read_number(input)?;
+    let bytes = read_bytes(input, space, size.value)?;
+    Ok(Argument {
         length: bytes.length,
         whole: size.whole & bytes.whole,
-    }
+    })
 }
 
 // The same of an argument whose length was read.
-pub fn read_bytes(space: &mut [u8], wanted: usize) -> Argument
-    ensures { IsPrefixLen result.length space.new }
+pub fn read_bytes(input: &mut impl Read, space: &mut [u8], wanted: usize) -> io::Result<Argument>
+    ensures ok { IfOk result (λ argument. IsPrefixLen argument.length space.new) }
+    ensures err { OnErr result (length space.new ≡ length space.old) }
 {
     if wanted > space.len() {
-        return Argument {
+        return Ok(Argument {
             length: 0,
             whole: false,
-        };
+        });
     }
-    let length = io::read_full(STDIN_FILENO, &mut space[..wanted]);
-    Argument {
-        length: length,
+    let length = read_full(input, &mut space[..wanted])?;
+    Ok(Argument {
+        length,
         whole: length == wanted,
-    }
+    })
 }
 
 // The next argument as a table, two bytes for each number. It is not whole, either, if a number is cut.
-pub fn read_table(space: &mut [u16]) -> Argument
-    ensures { IsPrefixLen result.length space.new }
+pub fn read_table(input: &mut impl Read, space: &mut [u16]) -> io::Result<Argument>
+    ensures ok { IfOk result (λ argument. IsPrefixLen argument.length space.new) }
+    ensures err { OnErr result (length space.new ≡ length space.old) }
 {
     let mut bytes = [0u8; 32768];
-    let argument = read(&mut bytes);
+    let argument = read(input, &mut bytes)?;
     let length = argument.length;
     let count = numbers(&bytes[..length], space);
-    Argument {
+    Ok(Argument {
         length: count,
         whole: argument.whole & (length == 2 * count),
-    }
+    })
 }
 
 // The numbers that these bytes make, put at the start of `space` as far as it goes, and how many they are.
@@ -96,16 +100,31 @@ pub struct NumberRead {
     pub whole: bool,
 }
 
-pub fn read_number() -> NumberRead {
+pub fn read_number(input: &mut impl Read) -> io::Result<NumberRead> {
     let mut four = [0u8; 4];
-    let got = io::read_full(STDIN_FILENO, &mut four);
-    NumberRead {
+    let got = read_full(input, &mut four)?;
+    Ok(NumberRead {
         value: number(&four),
         whole: got == 4,
-    }
+    })
 }
 
 // The number that four bytes make, the lowest first.
 fn number(four: &[u8; 4]) -> usize {
     wide(four[0]) + 256 * (wide(four[1]) + 256 * (wide(four[2]) + 256 * wide(four[3])))
+}
+
+// Reads until `space` is full or the input ends, and says how many bytes came.
+fn read_full(input: &mut impl Read, space: &mut [u8]) -> io::Result<usize>
+    ensures ok { IfOk result (λ count. IsPrefixLen count space.new) }
+{
+    let mut done = 0;
+    while done < space.len() {
+        let count = input.read(&mut space[done..])?;
+        if count == 0 {
+            break;
+        }
+        done += count;
+    }
+    Ok(done)
 }

@@ -1,38 +1,39 @@
-// Writing the parts of an answer. A write that fails loses what it was to write: nobody reads on.
-ghost use Rattle.io.specs.Counts.{IsPrefixLen};
+// Writing the parts of an answer. What a failed write leaves unwritten is lost, and the error is passed on.
+ghost use Rattle.std.specs.Counts.{IsPrefixLen};
 
-use libc::STDOUT_FILENO;
+use std::io;
+use std::io::Write;
 
-pub fn byte(b: u8) {
-    io::write_all(STDOUT_FILENO, &[b]);
+pub fn byte(output: &mut impl Write, b: u8) -> io::Result<()> {
+    output.write_all(&[b])
 }
 
 // The number returned, and the first value besides it.
-pub fn reply(returned: u8, value: usize) {
-    byte(returned);
-    number(value);
+pub fn reply(output: &mut impl Write, returned: u8, value: usize) -> io::Result<()> {
+    byte(output, returned)?;
+    number(output, value)
 }
 
 // The number as four bytes, the lowest first.
-pub fn number(n: usize) {
+pub fn number(output: &mut impl Write, n: usize) -> io::Result<()> {
     let four = [
         (n % 256) as u8,
         (n / 256 % 256) as u8,
         (n / 65536 % 256) as u8,
         (n / 16777216 % 256) as u8,
     ];
-    io::write_all(STDOUT_FILENO, &four);
+    output.write_all(&four)
 }
 
-pub fn bytes(place: &[u8]) {
-    io::write_all(STDOUT_FILENO, place);
+pub fn bytes(output: &mut impl Write, place: &[u8]) -> io::Result<()> {
+    output.write_all(place)
 }
 
 // A table, two bytes for each number, in one write.
-pub fn table(numbers: &[u16]) {
+pub fn table(output: &mut impl Write, numbers: &[u16]) -> io::Result<()> {
     let mut space = [0u8; 32768];
     let size = spread(numbers, &mut space);
-    io::write_all(STDOUT_FILENO, &space[..size]);
+    output.write_all(&space[..size])
 }
 
 // The bytes of these numbers, the lower first, put at the start of `space` as far as it goes, and how many they are.
