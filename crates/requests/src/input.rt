@@ -14,9 +14,9 @@ pub enum Start {
     Ended,
 }
 
-pub fn first_byte(input: &mut impl Read) -> io::Result<Start> {
+pub fn first_byte(from: &mut impl Read) -> io::Result<Start> {
     let mut one = [0u8; 1];
-    if read_full(input, &mut one)? < 1 {
+    if read_full(from, &mut one)? < 1 {
         return Ok(Start::Ended);
     }
     Ok(Start::With(one[0]))
@@ -31,12 +31,12 @@ pub struct Argument {
 
 // The next argument, put at the start of `space`. It is not whole if the input ends in it, or if it
 // is longer than `space`, which is as long as such an argument may be.
-pub fn read(input: &mut impl Read, space: &mut [u8]) -> io::Result<Argument>
+pub fn read(from: &mut impl Read, space: &mut [u8]) -> io::Result<Argument>
     ensures ok { IfOk result (λ argument. IsPrefixLen argument.length space.new) }
     ensures err { OnErr result (length space.new ≡ length space.old) }
 {
-    let size = read_number(input)?;
-    let bytes = read_bytes(input, space, size.value)?;
+    let size = read_number(from)?;
+    let bytes = read_bytes(from, space, size.value)?;
     Ok(Argument {
         length: bytes.length,
         whole: size.whole & bytes.whole,
@@ -44,7 +44,7 @@ pub fn read(input: &mut impl Read, space: &mut [u8]) -> io::Result<Argument>
 }
 
 // The same of an argument whose length was read.
-pub fn read_bytes(input: &mut impl Read, space: &mut [u8], wanted: usize) -> io::Result<Argument>
+pub fn read_bytes(from: &mut impl Read, space: &mut [u8], wanted: usize) -> io::Result<Argument>
     ensures ok { IfOk result (λ argument. IsPrefixLen argument.length space.new) }
     ensures err { OnErr result (length space.new ≡ length space.old) }
 {
@@ -54,7 +54,7 @@ pub fn read_bytes(input: &mut impl Read, space: &mut [u8], wanted: usize) -> io:
             whole: false,
         });
     }
-    let length = read_full(input, &mut space[..wanted])?;
+    let length = read_full(from, &mut space[..wanted])?;
     Ok(Argument {
         length,
         whole: length == wanted,
@@ -62,12 +62,12 @@ pub fn read_bytes(input: &mut impl Read, space: &mut [u8], wanted: usize) -> io:
 }
 
 // The next argument as a table, two bytes for each number. It is not whole, either, if a number is cut.
-pub fn read_table(input: &mut impl Read, space: &mut [u16]) -> io::Result<Argument>
+pub fn read_table(from: &mut impl Read, space: &mut [u16]) -> io::Result<Argument>
     ensures ok { IfOk result (λ argument. IsPrefixLen argument.length space.new) }
     ensures err { OnErr result (length space.new ≡ length space.old) }
 {
     let mut bytes = [0u8; 32768];
-    let argument = read(input, &mut bytes)?;
+    let argument = read(from, &mut bytes)?;
     let length = argument.length;
     let count = numbers(&bytes[..length], space);
     Ok(Argument {
@@ -100,9 +100,9 @@ pub struct NumberRead {
     pub whole: bool,
 }
 
-pub fn read_number(input: &mut impl Read) -> io::Result<NumberRead> {
+pub fn read_number(from: &mut impl Read) -> io::Result<NumberRead> {
     let mut four = [0u8; 4];
-    let got = read_full(input, &mut four)?;
+    let got = read_full(from, &mut four)?;
     Ok(NumberRead {
         value: number(&four),
         whole: got == 4,
@@ -115,12 +115,12 @@ fn number(four: &[u8; 4]) -> usize {
 }
 
 // Reads until `space` is full or the input ends, and says how many bytes came.
-fn read_full(input: &mut impl Read, space: &mut [u8]) -> io::Result<usize>
+fn read_full(from: &mut impl Read, space: &mut [u8]) -> io::Result<usize>
     ensures ok { IfOk result (λ count. IsPrefixLen count space.new) }
 {
     let mut done = 0;
     while done < space.len() {
-        let count = input.read(&mut space[done..])?;
+        let count = from.read(&mut space[done..])?;
         if count == 0 {
             break;
         }

@@ -4,36 +4,36 @@ ghost use Rattle.std.specs.Counts.{IsPrefixLen};
 use std::io;
 use std::io::Write;
 
-pub fn byte(output: &mut impl Write, b: u8) -> io::Result<()> {
-    output.write_all(&[b])
+pub fn byte(to: &mut impl Write, b: u8) -> io::Result<()> {
+    to.write_all(&[b])
 }
 
 // The number returned, and the first value besides it.
-pub fn reply(output: &mut impl Write, returned: u8, value: usize) -> io::Result<()> {
-    byte(output, returned)?;
-    number(output, value)
+pub fn reply(to: &mut impl Write, returned: u8, value: usize) -> io::Result<()> {
+    byte(to, returned)?;
+    number(to, value)
 }
 
 // The number as four bytes, the lowest first.
-pub fn number(output: &mut impl Write, n: usize) -> io::Result<()> {
+pub fn number(to: &mut impl Write, n: usize) -> io::Result<()> {
     let four = [
         (n % 256) as u8,
         (n / 256 % 256) as u8,
         (n / 65536 % 256) as u8,
         (n / 16777216 % 256) as u8,
     ];
-    output.write_all(&four)
+    to.write_all(&four)
 }
 
-pub fn bytes(output: &mut impl Write, place: &[u8]) -> io::Result<()> {
-    output.write_all(place)
+pub fn bytes(to: &mut impl Write, place: &[u8]) -> io::Result<()> {
+    to.write_all(place)
 }
 
 // A table, two bytes for each number, in one write.
-pub fn table(output: &mut impl Write, numbers: &[u16]) -> io::Result<()> {
+pub fn table(to: &mut impl Write, numbers: &[u16]) -> io::Result<()> {
     let mut space = [0u8; 32768];
     let size = spread(numbers, &mut space);
-    output.write_all(&space[..size])
+    to.write_all(&space[..size])
 }
 
 // The bytes of these numbers, the lower first, put at the start of `space` as far as it goes, and how many they are.

@@ -6,68 +6,50 @@ ghost use Rattle.std.specs.Prelude.{◌≤◌, length};
 ghost use Rattle.stem.specs.Input.{came};
 
 use answers::TextRun;
-use libc::{STDERR_FILENO, STDIN_FILENO, STDOUT_FILENO};
+use std::io;
+use std::io::{Read, Write};
+use std::process::ExitCode;
 
-// What came on standard input.
-#[derive(Drop)]
-enum Input {
-    // So many bytes, up to its end or to the buffer's.
-    Bytes(usize),
-    // A read failed.
-    Failed,
-}
-
-// One read: so many bytes came, 0 at the end of the input.
-fn read_once(rest: &mut [u8]) -> Input
-    ensures { came result ≤ length rest.new }
-{
-    let got = libc::read(STDIN_FILENO, rest);
-    if got < 0 {
-        return Input::Failed;
-    }
-    Input::Bytes(io::count(got, &rest[..]))
-}
-
-// Reads until the input ends, however small the pieces in which it comes, or until the buffer is full.
-fn read_input(buffer: &mut [u8]) -> Input
+// Reads until the input ends, however small the pieces in which it comes, or until the buffer is full, and says how many bytes came.
+fn read_input(from: &mut impl Read, buffer: &mut [u8]) -> io::Result<usize>
     ensures { came result ≤ length buffer.new }
 {
     let mut at: usize = 0;
     while at < buffer.len() {
-        let piece = read_once(&mut buffer[at..]);
-        let Input::Bytes(more) = piece else {
-            return Input::Failed;
-        };
+        let more = from.read(&mut buffer[at..])?;
         if more == 0 {
-            return Input::Bytes(at);
+            break;
         }
         at += more;
     }
-    Input::Bytes(at)
+    Ok(at)
 }
 
-// Writes the text after the run, or the refusal; answers whether all was written.
-fn write_answer(text: &mut [u8]) -> bool {
-    let answer = texts::run(text);
-    match answer {
+// Writes the text after the run, or the refusal.
+fn write_answer(to: &mut impl Write, text: &mut [u8]) -> io::Result<()> {
+    match texts::run(text) {
         TextRun::Done {
             stemmed: _,
             left: _,
-        } => io::write_all(STDOUT_FILENO, &text[..]),
-        TextRun::TooLong => io::write_all(STDOUT_FILENO, b"refused 5\n"),
+        } => to.write_all(text),
+        TextRun::TooLong => to.write_all(b"refused 5\n"),
     }
 }
 
+// Says on standard error what failed. If that cannot be written either, the status alone says that something did.
+fn failed(rt: &impl Eprint, what: &str) -> ExitCode {
+    let _ = rt.eprintln(what);
+    ExitCode::FAILURE
+}
+
 // The buffer holds one byte more than a text may have, so that the run sees and refuses a longer one.
-fn main() {
+fn main(rt: HostRuntime) -> ExitCode {
     let mut buffer = [0u8; 65537];
-    let input = read_input(&mut buffer);
-    let Input::Bytes(count) = input else {
-        io::write_all(STDERR_FILENO, b"stem: standard input cannot be read\n");
-        return;
+    let Ok(count) = read_input(&mut rt.stdin(), &mut buffer) else {
+        return failed(&rt, "stem: standard input cannot be read");
     };
-    let is_written = write_answer(&mut buffer[..count]);
-    if !is_written {
-        io::write_all(STDERR_FILENO, b"stem: the answer was not written whole\n");
-    }
+    let Ok(()) = write_answer(&mut rt.stdout(), &mut buffer[..count]) else {
+        return failed(&rt, "stem: the answer was not written whole");
+    };
+    ExitCode::SUCCESS
 }
