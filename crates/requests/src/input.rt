@@ -3,6 +3,7 @@
 ghost use Rattle.std.specs.Prelude.{◌≡◌, ◌<◌, ◌^◌, length, IfOk, OnErr};
 ghost use Rattle.std.specs.Counts.{IsPrefixLen};
 
+use filling::fill;
 use numbers::{pair, wide};
 use std::io;
 use std::io::Read;
@@ -16,7 +17,7 @@ pub enum Start {
 
 pub fn first_byte(from: &mut impl Read) -> io::Result<Start> {
     let mut one = [0u8; 1];
-    if read_full(from, &mut one)? < 1 {
+    if fill(from, &mut one)? < 1 {
         return Ok(Start::Ended);
     }
     Ok(Start::With(one[0]))
@@ -54,7 +55,7 @@ pub fn read_bytes(from: &mut impl Read, space: &mut [u8], wanted: usize) -> io::
             whole: false,
         });
     }
-    let length = read_full(from, &mut space[..wanted])?;
+    let length = fill(from, &mut space[..wanted])?;
     Ok(Argument {
         length,
         whole: length == wanted,
@@ -102,7 +103,7 @@ pub struct NumberRead {
 
 pub fn read_number(from: &mut impl Read) -> io::Result<NumberRead> {
     let mut four = [0u8; 4];
-    let got = read_full(from, &mut four)?;
+    let got = fill(from, &mut four)?;
     Ok(NumberRead {
         value: number(&four),
         whole: got == 4,
@@ -112,19 +113,4 @@ pub fn read_number(from: &mut impl Read) -> io::Result<NumberRead> {
 // The number that four bytes make, the lowest first.
 fn number(four: &[u8; 4]) -> usize {
     wide(four[0]) + 256 * (wide(four[1]) + 256 * (wide(four[2]) + 256 * wide(four[3])))
-}
-
-// Reads until `space` is full or the input ends, and says how many bytes came.
-fn read_full(from: &mut impl Read, space: &mut [u8]) -> io::Result<usize>
-    ensures ok { IfOk result (λ count. IsPrefixLen count space.new) }
-{
-    let mut done = 0;
-    while done < space.len() {
-        let count = from.read(&mut space[done..])?;
-        if count == 0 {
-            break;
-        }
-        done += count;
-    }
-    Ok(done)
 }

@@ -2,54 +2,75 @@
 // 65,536 bytes came. What could not be read or written is said on standard error, and then nothing claims success.
 #![tactic(auto)]
 
-ghost use Rattle.std.specs.Prelude.{◌≤◌, length};
+ghost use Rattle.std.specs.Prelude.{◌≡◌, ◌≤◌, ◌<◌, IfOk, IfSome, OnOk, length, take};
+ghost use Rattle.std.specs.Io.KnownBytes.{Appends, Consumes, IsAtEnd};
+ghost use Rattle.paper.specs.Shipped.{shipped};
+ghost use Rattle.paper.specs.Words.{stem};
+ghost use Rattle.texts.specs.Texts.{text_outcome};
 ghost use Rattle.stem.specs.Input.{came};
+ghost use Rattle.stem.specs.Output.{written};
 
 use answers::TextRun;
-use std::io;
+use filling::fill;
 use std::io::{Read, Write};
 use std::process::ExitCode;
 
+// What could not be done.
+#[derive(Drop)]
+enum Failure {
+    Unread,
+    Unwritten,
+}
+
 // Reads until the input ends, however small the pieces in which it comes, or until the buffer is full, and says how many bytes came.
-fn read_input(from: &mut impl Read, buffer: &mut [u8]) -> io::Result<usize>
-    ensures { came result ≤ length buffer.new }
+fn read_input<R: Read>(from: &mut R, buffer: &mut [u8]) -> Result<usize, Failure>
+    ensures count { came result ≤ length buffer.new }
+    ensures taken { IfOk result (λ count.
+        Consumes (R.remaining from.old) (R.remaining from.new) (take count buffer.new)) }
+    ensures ended { IfOk result (λ count. count < length buffer.new → IsAtEnd (R.remaining from.new)) }
 {
-    let mut at: usize = 0;
-    while at < buffer.len() {
-        let more = from.read(&mut buffer[at..])?;
-        if more == 0 {
-            break;
-        }
-        at += more;
+    match fill(from, buffer) {
+        Ok(count) => Ok(count),
+        Err(_) => Err(Failure::Unread),
     }
-    Ok(at)
 }
 
 // Writes the text after the run, or the refusal.
-fn write_answer(to: &mut impl Write, text: &mut [u8]) -> io::Result<()> {
-    match texts::run(text) {
+fn write_answer<W: Write>(to: &mut W, text: &mut [u8]) -> Result<(), Failure>
+    ensures { OnOk result
+        (Appends (W.contents to.old) (W.contents to.new) (written (text_outcome (stem shipped) text.old))) }
+{
+    let wrote = match texts::run(text) {
         TextRun::Done {
             stemmed: _,
             left: _,
         } => to.write_all(text),
         TextRun::TooLong => to.write_all(b"refused 5\n"),
+    };
+    match wrote {
+        Ok(()) => Ok(()),
+        Err(_) => Err(Failure::Unwritten),
     }
 }
 
-// Says on standard error what failed. If that cannot be written either, the status alone says that something did.
-fn failed(rt: &impl Eprint, what: &str) -> ExitCode {
-    let _ = rt.eprintln(what);
-    ExitCode::FAILURE
+// The whole run, from any reader to any writer. The buffer holds one byte more than a text may have, so that a longer one is seen and
+// refused.
+fn run<R: Read, W: Write>(from: &mut R, to: &mut W) -> Result<(), Failure>
+    ensures { OnOk result (IfSome (R.remaining from.old)
+        (λ input. Appends (W.contents to.old) (W.contents to.new) (written (text_outcome (stem shipped) input)))) }
+{
+    let mut buffer = [0u8; 65537];
+    let count = read_input(from, &mut buffer)?;
+    write_answer(to, &mut buffer[..count])
 }
 
-// The buffer holds one byte more than a text may have, so that the run sees and refuses a longer one.
+// If what failed cannot be said on standard error either, the status alone says that something did.
 fn main(rt: HostRuntime) -> ExitCode {
-    let mut buffer = [0u8; 65537];
-    let Ok(count) = read_input(&mut rt.stdin(), &mut buffer) else {
-        return failed(&rt, "stem: standard input cannot be read");
+    let said = match run(&mut rt.stdin(), &mut rt.stdout()) {
+        Ok(()) => return ExitCode::SUCCESS,
+        Err(Failure::Unread) => "stem: standard input cannot be read",
+        Err(Failure::Unwritten) => "stem: the answer was not written whole",
     };
-    let Ok(()) = write_answer(&mut rt.stdout(), &mut buffer[..count]) else {
-        return failed(&rt, "stem: the answer was not written whole");
-    };
-    ExitCode::SUCCESS
+    let _ = rt.eprintln(said);
+    ExitCode::FAILURE
 }
