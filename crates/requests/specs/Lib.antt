@@ -1,0 +1,2 @@
+-- How the parts of requests and of answers stand in bytes.
+pub mod Parts
