@@ -18,6 +18,15 @@ def clang(*words, machine="x86_64"):
         sys.exit(run.stderr)
 
 
+def as_compiled(machine="x86_64"):
+    """The words with which the toolchain compiles the module that bench/object kept last, but for what they name; for another
+    processor the plain ones."""
+    if machine != "x86_64":
+        return ["-fPIC", "-O3"]
+    words = (FOLDER / "words").read_text().split()
+    return words[: words.index("-c")] + words[words.index("-o") + 2 :]
+
+
 def text_of(kind, name):
     """The module of a library or a program, as bench/object keeps it."""
     subprocess.run([ROOT / "bench/object", kind, name], check=True)

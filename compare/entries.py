@@ -29,10 +29,10 @@ def printed(*command):
 def build():
     """Links the program with the proved library."""
     BUILT.parent.mkdir(parents=True, exist_ok=True)
-    printed("rt", "staticlib", "lunarbugle")
+    library = printed("tools/built", "lunarbugle")
     compiler = printed(EMULATE, "--compiler")
     flags = "-std=c11 -Wall -Wextra -Werror -O2 -static -Iinclude".split()
-    printed(compiler, *flags, HERE / "entries.c", "target/staticlib/liblunarbugle.a", "-o", BUILT)
+    printed(compiler, *flags, HERE / "entries.c", library, "-o", BUILT)
 
 
 def through_entries(kind, one, most=MOST_BATCHES):

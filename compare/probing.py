@@ -16,7 +16,7 @@ import second
 
 HERE = Path(__file__).resolve().parent
 EMULATE = HERE.parent / "tools/emulate"
-PROBE = [EMULATE, HERE.parent / "target/bin/probe"]
+PROBE = [EMULATE, HERE.parent / "crates/probe/out/probe"]
 
 WORD, TEXT, NEXT, CHECK, TRANSLATE, RUN, MAKE = range(1, 8)
 LOOKUP, WORD_WITH_LIST, TEXT_WITH_LIST, VOCABULARY = range(8, 12)

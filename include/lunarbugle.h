@@ -1,8 +1,8 @@
 /* Lunarbugle: a proved stemmer for English words and texts, for hosts in C and C++.
  *
- * Link with liblunarbugle.a (rt staticlib lunarbugle). No entry keeps a pointer, allocates, or reads or writes anything but
- * the bytes it is lent. Every entry takes any bytes and always returns, on a machine that has the stack for it: at most 616
- * bytes for a word, 696 for a word with an exception list, 824 for a text and 760 for a vocabulary, on x86-64.
+ * Link with liblunarbugle.a (rt lib --cpu x86-64, in crates/lunarbugle). No entry keeps a pointer, allocates, or reads or writes
+ * anything but the bytes it is lent. Every entry takes any bytes and always returns, on a machine that has the stack for it: at most
+ * 616 bytes for a word, 696 for a word with an exception list, 824 for a text and 760 for a vocabulary, on x86-64.
  *
  * Numbers returned:
  *   0  done

@@ -54,7 +54,7 @@ def read_edit(path, crate):
 def all_edits():
     """In the order of crates.txt, and of their names."""
     edits = []
-    for crate in re.findall(r"^(\w+):", (ROOT / "crates.txt").read_text(), re.MULTILINE):
+    for crate in re.findall(r"^(\w+)(?: staticlib)?:", (ROOT / "crates.txt").read_text(), re.MULTILINE):
         paths = [*(CRATES / crate / "must-fail").glob("*.edit"), *(ROOT / "tools/wrong" / crate).glob("*.edit")]
         edits += sorted((read_edit(path, crate) for path in paths), key=lambda edit: edit.name)
     return edits

@@ -153,21 +153,21 @@ def result_of(call):
 def written(kind):
     """The statements that write a result of this type."""
     if kind.startswith("["):
-        return "output::table(&result);" if kind.startswith("[u16") else "output::bytes(&result);"
+        return "output::table(to, &result)?;" if kind.startswith("[u16") else "output::bytes(to, &result)?;"
     return {
         "": "",
-        "bool": "output::byte(if result { 1 } else { 0 });",
-        "u8": "output::byte(result);",
-        "usize": "output::number(result);",
-        "u64": "output::number((result % 4294967296) as usize); output::number((result / 4294967296) as usize);",
-        "&[u8]": "output::bytes(result);",
-        "Ran": "let reply = answers::of_run(result); output::reply(reply.number, reply.value);",
-        "Run": "output::number(result.end); output::byte(if result.small { 1 } else { 0 });",
-        "Shape": "match result { forests::Shape::Forest(nodes) => output::reply(1, nodes), "
-        "forests::Shape::Other => output::reply(0, 0) }",
+        "bool": "output::byte(to, if result { 1 } else { 0 })?;",
+        "u8": "output::byte(to, result)?;",
+        "usize": "output::number(to, result)?;",
+        "u64": "output::number(to, (result % 4294967296) as usize)?; output::number(to, (result / 4294967296) as usize)?;",
+        "&[u8]": "output::bytes(to, result)?;",
+        "Ran": "let reply = answers::of_run(result); output::reply(to, reply.number, reply.value)?;",
+        "Run": "output::number(to, result.end)?; output::byte(to, if result.small { 1 } else { 0 })?;",
+        "Shape": "match result { forests::Shape::Forest(nodes) => output::reply(to, 1, nodes)?, "
+        "forests::Shape::Other => output::reply(to, 0, 0)? }",
         "ListChecked": "let reply = answers::of_listed_word(match result { answers::ListChecked::Accepted(count) => "
         "answers::ListedWord::Word(answers::Answer::Done(count)), answers::ListChecked::Refused(place) => "
-        "answers::ListedWord::Refused(place) }); output::reply(reply.number, reply.value);",
+        "answers::ListedWord::Refused(place) }); output::reply(to, reply.number, reply.value)?;",
     }[kind]
 
 
@@ -182,20 +182,23 @@ def program_of(call):
         f"let mut room = {lent};" if room else "",
         f"{'let result = ' if kind else ''}{call.expression};",
         written(kind),
-        "output::bytes(&room);" if room else "",
+        "output::bytes(to, &room)?;" if room else "",
     ]
     return f"""use requests::input;
 use requests::input::Start;
 use requests::output;
+use std::io;
+use std::io::Write;
 
-fn shown() {{
+fn shown(to: &mut impl Write) -> io::Result<()> {{
     {' '.join(filter(None, lines))}
+    Ok(())
 }}
 
-fn main() {{
-    match input::first_byte() {{
-        Start::With(_) => shown(),
-        Start::Ended => {{}}
+fn main(rt: HostRuntime) -> io::Result<()> {{
+    match input::first_byte(&mut rt.stdin())? {{
+        Start::With(_) => shown(&mut rt.stdout()),
+        Start::Ended => Ok(()),
     }}
 }}
 """

@@ -12,12 +12,10 @@ from wrong_inputs import Call, program_of, values_of
 
 from probing import EMULATE, ENDED, LOOKUP, TRANSLATE, coded_request, decoded  # of compare/, which wrong_inputs finds
 
-KIT_LIBRARIES = ["std", "libc", "io"]
 SECONDS = 20  # more than any right run takes
 OVER = ["the byte 255"]  # what `probe` answers to a request over its bounds
 
-# The linker of the toolchain, in a folder like the toolchain's: it leaves what it linked at a named place and then fails, as
-# the first of the ways in which the toolchain tries a program is enough.
+# The linker of the toolchain: it leaves what it linked at a named place and then fails, so that rt does not try the program itself.
 LINKER = """#!/bin/sh
 '{linker}' "$@" || exit
 for word; do
@@ -30,76 +28,52 @@ exit 1
 
 @lru_cache(None)
 def toolchain():
-    return Path(subprocess.run([EMULATE, "--toolchain"], capture_output=True, text=True, check=True).stdout.strip())
+    return subprocess.run([EMULATE, "--toolchain"], capture_output=True, text=True, check=True).stdout.strip()
 
 
-def toolchain_in(room):
-    """The toolchain, but for the linker above."""
-    made = room / "toolchain"
-    (made / "bin").mkdir(parents=True)
-    (made / "lib").symlink_to(toolchain() / "lib")
-    for tool in (toolchain() / "bin").iterdir():
-        if tool.name != "ld.lld":
-            (made / "bin" / tool.name).symlink_to(tool)
-    linker = made / "bin/ld.lld"
-    linker.write_text(LINKER.format(linker=toolchain() / "bin/ld.lld", program=room / "program"))
-    linker.chmod(0o755)
-    return made
+def compiled(crate, room):
+    """The program of a crate of the repository in this room, compiled without a proof, with no input to be tried on."""
+    program, kit = room / "program", room / "kit"
+    linker = LINKER.format(linker=f"{toolchain()}/bin/ld.lld", program=program)
+    subprocess.run([ROOT / "tools/kit", kit, "toolchain/bin/ld.lld"], input=linker, text=True, check=True)
+    (kit / "bin/rattle").unlink()  # by which rt would also look for names that a check refuses
+    where = room / "repository/crates" / crate
+    run = subprocess.run([kit / "bin/rt", "try"], cwd=where, stdin=subprocess.DEVNULL, capture_output=True, text=True)
+    if not program.is_file():
+        raise ValueError(f"{run.stdout[-2000:]}{run.stderr[-2000:]}\n{crate} was not compiled")
+    return program
 
 
-def compiled(main, sources, room):
-    """The program of this file, compiled without a proof over the crates in this folder."""
-    machine = toolchain().parent
-    words = [machine / "bin/rattle-cases", "--toolchain", toolchain_in(room), main, "--crate-name", "shown"]
-    for name in KIT_LIBRARIES:
-        words += ["--lib", f"{name}={machine.parent.parent / 'libs' / name}/src/lib.rt"]
-    for library in sources.glob("*/lib.rt"):
-        words += ["--lib", f"{library.parent.name}={library}"]
-    run = subprocess.run(words, capture_output=True, text=True, cwd=room)
-    if not (room / "program").is_file():
-        raise ValueError(f"{run.stdout[-2000:]}{run.stderr[-2000:]}\n{main} was not compiled")
-    return room / "program"
-
-
-@lru_cache(None)
-def clashing():
-    """The crates of which another crate has a module of the same name. Where a crate is compiled from its source it sees every
-    other, and not only those that it depends on, so these get another name."""
-    modules = {path.stem for path in CRATES.glob("*/src/**/*.rt")}
-    return [path.name for path in CRATES.iterdir() if path.name in modules]
-
-
-def renamed(code, crate):
-    """The code with the clashing crates under their other name, if this crate depends on them."""
-    uses = re.search(rf"^{crate}:(.*)$", (ROOT / "crates.txt").read_text(), re.MULTILINE)
-    for name in clashing():
-        if not uses or name in uses[1].split():
-            code = re.sub(rf"(?<![\w:·]){name}::", f"{name}_crate::", code)
-    return code
-
-
-def put_sources(edit, sources):
-    """The code of every crate, with the edit if there is one, in this folder."""
+def put_sources(edit, repository):
+    """The code of every crate, with the edit if there is one, in this folder. The library for C is one as any other here, so that
+    its functions can be called; gives the names of all libraries."""
+    listed = (ROOT / "crates.txt").read_text().replace(" staticlib:", ":")
+    repository.mkdir()
+    (repository / "crates.txt").write_text(listed)
     for path in CRATES.glob("*/src/**/*.rt"):
-        crate, _, *place = path.relative_to(CRATES).parts
+        crate, *place = path.relative_to(CRATES).parts
         code = path.read_text()
         if edit and edit.crate == crate:
-            code = edited(edit, f"src/{'/'.join(place)}", code)
-        copy = sources.joinpath(f"{crate}_crate" if crate in clashing() else crate, *place)
+            code = edited(edit, "/".join(place), code)
+        copy = repository.joinpath("crates", crate, *place)
         copy.parent.mkdir(parents=True, exist_ok=True)
-        copy.write_text(renamed(code, crate))
+        copy.write_text(code)
+    names = re.findall(r"^(\w+):", listed, re.MULTILINE)
+    return [name for name in names if not (CRATES / name / "src/main.rt").is_file()]
 
 
 def built(asked, edit, room):
     """The program to ask: `probe`, or one that makes the call."""
-    sources = room / "crates"
-    put_sources(edit, sources)
-    main = sources / "probe/main.rt"
-    if isinstance(asked, Call):
-        main = room / "call/main.rt"
-        main.parent.mkdir()
-        main.write_text(renamed(program_of(asked), "main"))
-    return compiled(main, sources, room)
+    repository = room / "repository"
+    libraries = put_sources(edit, repository)
+    if not isinstance(asked, Call):
+        return compiled("probe", room)
+    main = repository / "crates/shown/src/main.rt"
+    main.parent.mkdir(parents=True)
+    main.write_text(program_of(asked))
+    with (repository / "crates.txt").open("a") as listed:
+        listed.write(f"shown: {' '.join(libraries)}\n")
+    return compiled("shown", room)
 
 
 def written(program, coded):

@@ -3,11 +3,11 @@ use Rattle.std.specs.Prelude.{ℕ, ◌≤◌, ◌≡◌, refl, Bool, true, List,
 use Prim.Native.Char.{Char, code}
 use Prim.Native.String.{String}
 use Rattle.paper.specs.Letters.{letters, inward, letter_at}
-use Rattle.paper.specs.Groups.{Rule, obeyed}
+use Rattle.paper.specs.Groups.{Rule}
 use Rattle.paper.specs.Shipped.{rule, group_2, group_3, group_4}
 use Rattle.blocks.specs.Blocks.{member, set_of, every_letter, Entry, block_at, compared, widest}
 use Rattle.blocks.specs.Blocks.{in_block, keeps_one, keeps_from, bounded, keeps}
-use Rattle.blocks.specs.BlocksLaws.{by_second_last, compared_few}
+use Rattle.blocks.specs.BlocksLaws.{compared_few}
 
 -- a letter, the rules that have it second last from a number up to another, and their letters last and third last
 unfoldable pub at : Char → ℕ → ℕ → String → String → Entry
@@ -82,10 +82,6 @@ unfolding tested group_4 index_4
 keeps_4 = refl
 
 -- ## Step 2, as W-203 asks
-
--- "What the step gives for each word stays as it is."
-pub step_2_stays : (word : List ℕ) → obeyed word (compared index_2 word group_2) ≡ obeyed word group_2
-step_2_stays word = by_second_last group_2 index_2 keeps_2 word
 
 -- of its 20 endings at most 5 are compared
 pub step_2_few : (word : List ℕ) → length (compared index_2 word group_2) ≤ 5

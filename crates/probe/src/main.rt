@@ -10,43 +10,50 @@ use requests::input::Start;
 use requests::{input, output};
 use requests_sheets::{lines, sheet, table};
 use requests_words::{list, text, vocabulary, word};
+use std::io;
+use std::io::{BufReader, BufWriter, Read, Write};
 
 // Answers the request that begins with this byte, and says whether it was whole and known.
-fn answered(kind: u8) -> bool {
+fn answered(from: &mut impl Read, to: &mut impl Write, kind: u8) -> io::Result<bool> {
     match kind {
-        1 => word::answered(),
-        2 => text::answered_run(),
-        3 => text::answered_next(),
-        4 => sheet::answered(),
-        5 => table::answered_translation(),
-        6 => table::answered_run(),
-        7 => lines::answered(),
-        8 | 9 => list::answered_word(kind),
-        10 => list::answered_text(),
-        11 => vocabulary::answered(),
-        _ => false,
+        1 => word::answered(from, to),
+        2 => text::answered_run(from, to),
+        3 => text::answered_next(from, to),
+        4 => sheet::answered(from, to),
+        5 => table::answered_translation(from, to),
+        6 => table::answered_run(from, to),
+        7 => lines::answered(from, to),
+        8 | 9 => list::answered_word(from, to, kind),
+        10 => list::answered_text(from, to),
+        11 => vocabulary::answered(from, to),
+        _ => Ok(false),
     }
 }
 
-// Answers the next request, and says whether to go on.
-fn went_on() -> bool {
-    match input::first_byte() {
+// Answers the next request, and says whether to go on. The answer is flushed, since who sent the
+// request may wait for it before sending another.
+fn went_on(from: &mut impl Read, to: &mut impl Write) -> io::Result<bool> {
+    match input::first_byte(from)? {
         Start::With(kind) => {
-            if answered(kind) {
-                return true;
+            let is_answered = answered(from, to, kind)?;
+            if !is_answered {
+                output::byte(to, 255)?;
             }
-            output::byte(255);
-            false
+            to.flush()?;
+            Ok(is_answered)
         }
-        Start::Ended => false,
+        Start::Ended => Ok(false),
     }
 }
 
 // A proved loop has to end, and nothing says that the input does. So the requests are counted down
 // from a number that no run uses up.
-fn main() {
+fn main(rt: HostRuntime) -> io::Result<()> {
+    let mut from = BufReader::new(rt.alloc(), rt.stdin())?;
+    let mut to = BufWriter::new(rt.alloc(), rt.stdout())?;
     let mut left = u64::MAX;
-    while left > 0 && went_on() {
+    while left > 0 && went_on(&mut from, &mut to)? {
         left -= 1;
     }
+    Ok(())
 }

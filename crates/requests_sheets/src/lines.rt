@@ -1,26 +1,28 @@
 // Request 7, lines and a sheet: the number returned, the value, and the sheet afterwards.
 use requests::{input, output};
+use std::io;
+use std::io::{Read, Write};
 
 // Reads the lines and the sheet, answers, and says whether the request was whole. Each may have 16,384 bytes.
-pub fn answered() -> bool {
+pub fn answered(from: &mut impl Read, to: &mut impl Write) -> io::Result<bool> {
     let mut line_space = [0u8; 16384];
-    let lines = input::read(&mut line_space);
+    let lines = input::read(from, &mut line_space)?;
     if !lines.whole {
-        return false;
+        return Ok(false);
     }
     let mut sheet_space = [0u8; 16384];
-    let sheet = input::read(&mut sheet_space);
+    let sheet = input::read(from, &mut sheet_space)?;
     if !sheet.whole {
-        return false;
+        return Ok(false);
     }
     let length = lines.length;
     let size = sheet.length;
-    answer(&line_space[..length], &mut sheet_space[..size]);
-    true
+    answer(to, &line_space[..length], &mut sheet_space[..size])?;
+    Ok(true)
 }
 
-fn answer(lines: &[u8], sheet: &mut [u8]) {
+fn answer(to: &mut impl Write, lines: &[u8], sheet: &mut [u8]) -> io::Result<()> {
     let reply = answers::of_making(imports::make(lines, sheet));
-    output::reply(reply.number, reply.value);
-    output::bytes(sheet);
+    output::reply(to, reply.number, reply.value)?;
+    output::bytes(to, sheet)
 }

@@ -1,15 +1,17 @@
 // Request 4, a sheet: the number returned, and the node count or the place.
 use requests::{input, output};
+use std::io;
+use std::io::{Read, Write};
 
 // Reads the sheet, answers, and says whether the request was whole. A sheet may have 16,384 bytes.
-pub fn answered() -> bool {
+pub fn answered(from: &mut impl Read, to: &mut impl Write) -> io::Result<bool> {
     let mut space = [0u8; 16384];
-    let sheet = input::read(&mut space);
+    let sheet = input::read(from, &mut space)?;
     if !sheet.whole {
-        return false;
+        return Ok(false);
     }
     let length = sheet.length;
     let reply = answers::of_check(sheets::check(&space[..length]));
-    output::reply(reply.number, reply.value);
-    true
+    output::reply(to, reply.number, reply.value)?;
+    Ok(true)
 }

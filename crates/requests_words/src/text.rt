@@ -2,39 +2,41 @@
 // place: the offset and the length of the next word from there.
 use crate::spaces;
 use requests::{input, output};
+use std::io;
+use std::io::{Read, Write};
 
 // Reads the text, answers, and says whether the request was whole. A text may have 70,000 bytes.
-pub fn answered_run() -> bool {
+pub fn answered_run(from: &mut impl Read, to: &mut impl Write) -> io::Result<bool> {
     let mut space = spaces::of_text();
-    let text = input::read(&mut space);
+    let text = input::read(from, &mut space)?;
     if !text.whole {
-        return false;
+        return Ok(false);
     }
     let length = text.length;
-    answer_run(&mut space[..length]);
-    true
+    answer_run(to, &mut space[..length])?;
+    Ok(true)
 }
 
-fn answer_run(text: &mut [u8]) {
+fn answer_run(to: &mut impl Write, text: &mut [u8]) -> io::Result<()> {
     let reply = answers::of_text(texts::run(text));
-    output::reply(reply.number, reply.stemmed);
-    output::number(reply.left);
-    output::bytes(text);
+    output::reply(to, reply.number, reply.stemmed)?;
+    output::number(to, reply.left)?;
+    output::bytes(to, text)
 }
 
-pub fn answered_next() -> bool {
+pub fn answered_next(from: &mut impl Read, to: &mut impl Write) -> io::Result<bool> {
     let mut space = spaces::of_text();
-    let text = input::read(&mut space);
-    let from = input::read_number();
+    let text = input::read(from, &mut space)?;
+    let place = input::read_number(from)?;
     if !text.whole {
-        return false;
+        return Ok(false);
     }
-    if !from.whole {
-        return false;
+    if !place.whole {
+        return Ok(false);
     }
     let length = text.length;
-    output::number(pieces::next_word_at(&space[..length], from.value));
-    let word = pieces::next_word(&space[..length], from.value);
-    output::number(word.len());
-    true
+    output::number(to, pieces::next_word_at(&space[..length], place.value))?;
+    let word = pieces::next_word(&space[..length], place.value);
+    output::number(to, word.len())?;
+    Ok(true)
 }

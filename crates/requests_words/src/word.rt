@@ -1,20 +1,22 @@
 // Request 1, a word: the number returned, the value, and the word's place afterwards.
 use requests::{input, output};
+use std::io;
+use std::io::{Read, Write};
 
 // Reads the word, answers, and says whether the request was whole. A word may have 4,096 bytes.
-pub fn answered() -> bool {
+pub fn answered(from: &mut impl Read, to: &mut impl Write) -> io::Result<bool> {
     let mut space = [0u8; 4096];
-    let word = input::read(&mut space);
+    let word = input::read(from, &mut space)?;
     if !word.whole {
-        return false;
+        return Ok(false);
     }
     let length = word.length;
-    answer(&mut space[..length]);
-    true
+    answer(to, &mut space[..length])?;
+    Ok(true)
 }
 
-fn answer(word: &mut [u8]) {
+fn answer(to: &mut impl Write, word: &mut [u8]) -> io::Result<()> {
     let reply = answers::of_word(words::stem(word));
-    output::reply(reply.number, reply.value);
-    output::bytes(word);
+    output::reply(to, reply.number, reply.value)?;
+    output::bytes(to, word)
 }

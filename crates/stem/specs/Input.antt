@@ -1,8 +1,6 @@
--- How many bytes came on standard input.
-use Rattle.std.specs.Prelude.{ℕ}
-use Rattle.stem.specs.declared.Input.{Input}
-use Rattle.stem.specs.declared.Input.TheVariants.{Bytes, Failed}
+-- How many bytes came on standard input: 0 if it could not be read.
+use Rattle.std.specs.Prelude.{ℕ, Result, Ok, Err}
 
-abbrev pub came : Input → ℕ
-came (Bytes count) = count
-came Failed = 0
+abbrev pub came : {E : Type 0} → Result ℕ E → ℕ
+came (Ok count) = count
+came (Err _) = 0

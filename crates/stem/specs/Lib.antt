@@ -1,2 +1,3 @@
--- What the program's functions say of what they read.
+-- What the program's functions say of what they read and write.
 pub mod Input
+pub mod Output

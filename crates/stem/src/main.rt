@@ -2,72 +2,75 @@
 // 65,536 bytes came. What could not be read or written is said on standard error, and then nothing claims success.
 #![tactic(auto)]
 
-ghost use Rattle.std.specs.Prelude.{◌≤◌, length};
+ghost use Rattle.std.specs.Prelude.{◌≡◌, ◌≤◌, ◌<◌, IfOk, IfSome, OnOk, length, take};
+ghost use Rattle.std.specs.Io.KnownBytes.{Appends, Consumes, IsAtEnd};
+ghost use Rattle.paper.specs.Shipped.{shipped};
+ghost use Rattle.paper.specs.Words.{stem};
+ghost use Rattle.texts.specs.Texts.{text_outcome};
 ghost use Rattle.stem.specs.Input.{came};
+ghost use Rattle.stem.specs.Output.{written};
 
 use answers::TextRun;
-use libc::{STDERR_FILENO, STDIN_FILENO, STDOUT_FILENO};
+use filling::fill;
+use std::io::{Read, Write};
+use std::process::ExitCode;
 
-// What came on standard input.
+// What could not be done.
 #[derive(Drop)]
-enum Input {
-    // So many bytes, up to its end or to the buffer's.
-    Bytes(usize),
-    // A read failed.
-    Failed,
+enum Failure {
+    Unread,
+    Unwritten,
 }
 
-// One read: so many bytes came, 0 at the end of the input.
-fn read_once(rest: &mut [u8]) -> Input
-    ensures { came result ≤ length rest.new }
+// Reads until the input ends, however small the pieces in which it comes, or until the buffer is full, and says how many bytes came.
+fn read_input<R: Read>(from: &mut R, buffer: &mut [u8]) -> Result<usize, Failure>
+    ensures count { came result ≤ length buffer.new }
+    ensures taken { IfOk result (λ count.
+        Consumes (R.remaining from.old) (R.remaining from.new) (take count buffer.new)) }
+    ensures ended { IfOk result (λ count. count < length buffer.new → IsAtEnd (R.remaining from.new)) }
 {
-    let got = libc::read(STDIN_FILENO, rest);
-    if got < 0 {
-        return Input::Failed;
+    match fill(from, buffer) {
+        Ok(count) => Ok(count),
+        Err(_) => Err(Failure::Unread),
     }
-    Input::Bytes(io::count(got, &rest[..]))
 }
 
-// Reads until the input ends, however small the pieces in which it comes, or until the buffer is full.
-fn read_input(buffer: &mut [u8]) -> Input
-    ensures { came result ≤ length buffer.new }
+// Writes the text after the run, or the refusal.
+fn write_answer<W: Write>(to: &mut W, text: &mut [u8]) -> Result<(), Failure>
+    ensures { OnOk result
+        (Appends (W.contents to.old) (W.contents to.new) (written (text_outcome (stem shipped) text.old))) }
 {
-    let mut at: usize = 0;
-    while at < buffer.len() {
-        let piece = read_once(&mut buffer[at..]);
-        let Input::Bytes(more) = piece else {
-            return Input::Failed;
-        };
-        if more == 0 {
-            return Input::Bytes(at);
-        }
-        at += more;
-    }
-    Input::Bytes(at)
-}
-
-// Writes the text after the run, or the refusal; answers whether all was written.
-fn write_answer(text: &mut [u8]) -> bool {
-    let answer = texts::run(text);
-    match answer {
+    let wrote = match texts::run(text) {
         TextRun::Done {
             stemmed: _,
             left: _,
-        } => io::write_all(STDOUT_FILENO, &text[..]),
-        TextRun::TooLong => io::write_all(STDOUT_FILENO, b"refused 5\n"),
+        } => to.write_all(text),
+        TextRun::TooLong => to.write_all(b"refused 5\n"),
+    };
+    match wrote {
+        Ok(()) => Ok(()),
+        Err(_) => Err(Failure::Unwritten),
     }
 }
 
-// The buffer holds one byte more than a text may have, so that the run sees and refuses a longer one.
-fn main() {
+// The whole run, from any reader to any writer. The buffer holds one byte more than a text may have, so that a longer one is seen and
+// refused.
+fn run<R: Read, W: Write>(from: &mut R, to: &mut W) -> Result<(), Failure>
+    ensures { OnOk result (IfSome (R.remaining from.old)
+        (λ input. Appends (W.contents to.old) (W.contents to.new) (written (text_outcome (stem shipped) input)))) }
+{
     let mut buffer = [0u8; 65537];
-    let input = read_input(&mut buffer);
-    let Input::Bytes(count) = input else {
-        io::write_all(STDERR_FILENO, b"stem: standard input cannot be read\n");
-        return;
+    let count = read_input(from, &mut buffer)?;
+    write_answer(to, &mut buffer[..count])
+}
+
+// If what failed cannot be said on standard error either, the status alone says that something did.
+fn main(rt: HostRuntime) -> ExitCode {
+    let said = match run(&mut rt.stdin(), &mut rt.stdout()) {
+        Ok(()) => return ExitCode::SUCCESS,
+        Err(Failure::Unread) => "stem: standard input cannot be read",
+        Err(Failure::Unwritten) => "stem: the answer was not written whole",
     };
-    let is_written = write_answer(&mut buffer[..count]);
-    if !is_written {
-        io::write_all(STDERR_FILENO, b"stem: the answer was not written whole\n");
-    }
+    let _ = rt.eprintln(said);
+    ExitCode::FAILURE
 }

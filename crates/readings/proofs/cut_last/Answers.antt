@@ -29,17 +29,15 @@ after-4 : (c : After-step_4-after_4) (known_after-3 : let word = c.args.word.now
     (c.step_3-after_3.result ≤ length word) × (take c.step_3-after_3.result word ≡ leaves group_3 word)) → let word = c.args.word.now in
     (c.step_4-after_4.result ≤ length word) × (take c.step_4-after_4.result word ≡ leaves group_4 (leaves group_3 word))
 after-4 c known_after-3 =
-    let before_it = known_after-3 in
-    let left = on _ group_4 _ _ before_it.0 c.step_4-after_4.ensures in
-    (left.0, left.1 ∙ ap (leaves group_4) before_it.1)
+    let left = on _ group_4 _ _ known_after-3.0 c.step_4-after_4.ensures in
+    (left.0, left.1 ∙ ap (leaves group_4) known_after-3.1)
 
 after-5a : (c : After-step_5a-after_5a) (known_after-4 : let word = c.args.word.now in
     (c.step_4-after_4.result ≤ length word) × (take c.step_4-after_4.result word ≡ leaves group_4 (leaves group_3 word))) → let word = c.args.word.now in
     (c.step_5a-after_5a.result ≤ length word) × (take c.step_5a-after_5a.result word ≡ leaves group_5a (leaves group_4 (leaves group_3 word)))
 after-5a c known_after-4 =
-    let before_it = known_after-4 in
-    let left = on _ group_5a _ _ before_it.0 c.step_5a-after_5a.ensures in
-    (left.0, left.1 ∙ ap (leaves group_5a) before_it.1)
+    let left = on _ group_5a _ _ known_after-4.0 c.step_5a-after_5a.ensures in
+    (left.0, left.1 ∙ ap (leaves group_5a) known_after-4.1)
 
 pub slice_bounds-step_4-end : goal.slice_bounds-step_4-end
 slice_bounds-step_4-end c = sym (length-take-le _ _ (after-3 (goal.at.slice_bounds-step_4-end c).After-step_3-after_3).0)

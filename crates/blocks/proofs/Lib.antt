@@ -1,0 +1,2 @@
+-- What is shown of the indexes of the shipped groups.
+pub mod Step2

@@ -1,0 +1,2 @@
+-- Tables in bytes.
+pub mod Tables
