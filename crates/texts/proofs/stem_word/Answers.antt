@@ -1,9 +1,10 @@
 -- `texts::stem_word` meets its contract: the word that was made small, or that was small already, is looked up and stemmed.
 use mathlib.Core.Path.{◌≡◌, sym, ap, ◌∙◌}
-use mathlib.Core.List.{map}
-use lib.ListN.{length, length-map}
+use Prim.Native.Nat.{ℕ}
+use mathlib.Core.Bool.{Bool, true}
+use mathlib.Core.List.{List, map}
 use Rattle.paper.specs.Shipped.{shipped}
-use Rattle.paper.specs.Words.{stem, Outcome, outcome}
+use Rattle.paper.specs.Words.{stem, all_small, Outcome, outcome}
 use Rattle.exceptions.specs.Judged.{judged_outcome}
 use Rattle.exceptions.specs.JudgedLaws.{taken_as_excepted}
 use Rattle.pieces.specs.Pieces.{lowered}
@@ -12,46 +13,31 @@ use Rattle.texts.specs.ListedTexts.{rule_with}
 use Rattle.texts.specs.RuleLaws.{rule_answers, rule_none}
 use Rattle.texts.specs.WordCalls.{small_taken, stemmed_word}
 use Rattle.texts.proofs.stem_word.Goals as goal
-use Rattle.texts.proofs.stem_word.Goals.{Joined-not-small, then-not-small, else-not-small}
+use Rattle.texts.proofs.stem_word.Goals.{then-not-small, else-not-small}
+
+-- letters that are small already stay as they are
+stays : (word : List ℕ) {small : Bool} → small ≡ all_small word → small ≡ true → word ≡ map lowered word
+stays word is small = sym (all_stay word (sym is ∙ small))
 
 -- where the arms of the branch meet, the letters are small
-made : (c : Joined-not-small) → c.if-not-small.word ≡ map lowered c.args.word.now
-made c =
-    elim c.if-not-small.branch [
-      | then-not-small w ↦ w.word-is ∙ w.make_small.ensures
-      | else-not-small w ↦ w.word-is ∙ sym (all_stay c.args.word.now (sym c.requires.small_value ∙ w.if-not-small.false))
-    ]
-
--- and so they are as many as there were
-made-length : (c : Joined-not-small) → c.if-not-small.word ≡ map lowered c.args.word.now → length c.if-not-small.word ≡ length c.args.word.now
-made-length c is = ap length is ∙ length-map c.args.word.now lowered
-
-pub shape_of-word-then-list-eq0 : goal.shape_of-word-then-list-eq0
-shape_of-word-then-list-eq0 c =
-    let joined = (goal.at.shape_of-word-then-list-eq0 c).Joined-not-small in
-    c.stem.auto.word ∙ made-length joined (made joined)
-
 pub returns-then-list-eq0 : goal.returns-then-list-eq0
 returns-then-list-eq0 c =
     let word = c.args.word.now in
     let list = c.args.list.now in
+    let made : c.if-not-small.word ≡ map lowered word = elim c.if-not-small.branch [ then-not-small w ↦ w.word-is ∙ w.make_small.ensures | else-not-small w ↦ w.word-is ∙ stays word c.requires.small_value w.if-not-small.false ] in
     let answers = rule_answers list (map lowered word) in
     let none : rule_with list ≡ stem shipped = rule_none list c.if-list-eq0.true in
     stemmed_word (rule_with list) word _ answers.0 c.requires.word c.requires.word_len_bound answers.1
-    (rw none (c.stem.ensures.place_is ∙ ap (λ l. (outcome l).place) (made (goal.at.returns-then-list-eq0 c).Joined-not-small)))
-
-pub shape_of-word : goal.shape_of-word
-shape_of-word c =
-    let joined = (goal.at.shape_of-word c).Joined-not-small in
-    c.stem_by.auto.word ∙ made-length joined (made joined)
+    (rw none (c.stem.ensures.place_is ∙ ap (λ l. (outcome l).place) made))
 
 pub returns : goal.returns
 returns c =
     let word = c.args.word.now in
     let list = c.args.list.now in
+    let is-small : c.if-not-small.word ≡ map lowered word = elim c.if-not-small.branch [ then-not-small w ↦ w.word-is ∙ w.make_small.ensures | else-not-small w ↦ w.word-is ∙ stays word c.requires.small_value w.if-not-small.false ] in
     let answers = rule_answers list (map lowered word) in
     let as-judged = taken_as_excepted (stem shipped) list (map lowered word) (small_taken word c.requires.word c.requires.word_len_bound) in
     stemmed_word (rule_with list) word _ answers.0 c.requires.word c.requires.word_len_bound answers.1
     (c.stem_by.ensures.place_is
-    ∙ ap (λ l. (judged_outcome (stem shipped) list l).place) (made (goal.at.returns c).Joined-not-small)
+    ∙ ap (λ l. (judged_outcome (stem shipped) list l).place) is-small
     ∙ ap (λ (o : Outcome). o.place) as-judged)
