@@ -11,7 +11,7 @@ use requests::{input, output};
 use requests_sheets::{lines, sheet, table};
 use requests_words::{list, text, vocabulary, word};
 use std::io;
-use std::io::{BufReader, BufWriter, Read, Write};
+use std::io::{Read, Write};
 
 // Answers the request that begins with this byte, and says whether it was whole and known.
 fn answered(from: &mut impl Read, to: &mut impl Write, kind: u8) -> io::Result<bool> {
@@ -49,8 +49,8 @@ fn went_on(from: &mut impl Read, to: &mut impl Write) -> io::Result<bool> {
 // A proved loop has to end, and nothing says that the input does. So the requests are counted down
 // from a number that no run uses up.
 fn main(rt: HostRuntime) -> io::Result<()> {
-    let mut from = BufReader::new(rt.alloc(), rt.stdin())?;
-    let mut to = BufWriter::new(rt.alloc(), rt.stdout())?;
+    let mut from = rt.stdin();
+    let mut to = rt.stdout();
     let mut left = u64::MAX;
     while left > 0 && went_on(&mut from, &mut to)? {
         left -= 1;
