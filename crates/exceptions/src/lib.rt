@@ -3,7 +3,7 @@
 
 ghost use Rattle.std.specs.Prelude.{◌≡◌};
 ghost use Rattle.paper.specs.Shipped.{shipped};
-ghost use Rattle.paper.specs.Words.{stem as stemOf};
+ghost use Rattle.paper.specs.Words.{stem as stem_of};
 ghost use Rattle.lists.specs.Lists.{find};
 ghost use Rattle.lists.specs.Calls.{listed_outcome};
 ghost use Rattle.lists.specs.Searches.{passed};
@@ -38,7 +38,7 @@ pub fn write(list: &[u8], word: &mut [u8]) -> Wrote
 
 // A word with a list that was judged before; no bytes are no list.
 pub fn stem_by(list: &[u8], word: &mut [u8]) -> Answer
-    ensures { Answered (judged_outcome (stemOf shipped) list.now word.old) result word.new }
+    ensures { Answered (judged_outcome (stem_of shipped) list.now word.old) result word.new }
 {
     let wrote = write(list, word);
     match wrote {
@@ -49,7 +49,7 @@ pub fn stem_by(list: &[u8], word: &mut [u8]) -> Answer
 
 // A word with a list: 10 comes before what is said of the word.
 pub fn stem(list: &[u8], word: &mut [u8]) -> ListedWord
-    ensures { AnsweredListed (listed_outcome (stemOf shipped) list.now word.old) result word.new }
+    ensures { AnsweredListed (listed_outcome (stem_of shipped) list.now word.old) result word.new }
 {
     let judged = lists::check(list);
     match judged {

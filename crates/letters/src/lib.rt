@@ -3,7 +3,7 @@
 #![tactic(auto)]
 
 ghost use Rattle.std.specs.Prelude.{◌≡◌, List, [], ◌∷◌, ◌++◌, ltb, ℕ, ◌+◌, ◌<◌, ◌≤◌, ◌^◌};
-ghost use Rattle.paper.specs.Letters.{vowel_after, measure as measureOf};
+ghost use Rattle.paper.specs.Letters.{vowel_after, measure as measure_of};
 ghost use Rattle.paper.specs.Conditions.{holds as holds_of};
 ghost use Rattle.paper.specs.States.{state as state_of};
 ghost use Rattle.paper.specs.Noted.{class_before, next_state};
@@ -114,7 +114,7 @@ fn above(part: &[u8], k: usize) -> bool
 }
 
 pub fn measure(part: &[u8]) -> usize
-    ensures { result ≡ measureOf part.now }
+    ensures { result ≡ measure_of part.now }
 {
     let s = scan(part);
     s.state / 2

@@ -14,7 +14,7 @@ use Rattle.lists.specs.ListedWords.{by_listing, refused_10, accepted_outcome, an
 use Rattle.texts.specs.ListedTexts.{listed_text}
 use Rattle.texts.specs.OutcomeLaws.{counts_within}
 use Rattle.texts.specs.ListedLaws.{listed_bounds}
-use Rattle.texts.specs.ListedLaws.{refused_10 as text-refused-10, accepted_text}
+use Rattle.texts.specs.ListedLaws.{refused_10 as text_refused_10, accepted_text}
 use Rattle.lunarbugle.specs.Packed.{packed_text, packed_listed, packed_listed_text}
 
 -- the offset stands within the list
@@ -69,7 +69,7 @@ module _ (rule : List ℕ → Reading) (list text : List ℕ) where
       → packed_listed_text (listed_text rule list text) ≡ 10 + 256 * place
   unfolding packed_listed_text
   text_listed_fault few place first =
-      let known = text-refused-10 rule list text ((refused_exactly list place).1 first) in
+      let known = text_refused_10 rule list text ((refused_exactly list place).1 first) in
       rw known (omega (arith, within_list list first))
 
   pub text_listed_counts : {entries : List Entry} → read_list list ≡ holding entries

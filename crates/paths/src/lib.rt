@@ -4,8 +4,8 @@
 
 ghost use Rattle.std.specs.Prelude.{◌≡◌, ◌<◌, get_or};
 ghost use Rattle.paper.specs.Letters.{inward};
-ghost use Rattle.walks.specs.Walk.{deepest as deepestOf, reached, held};
-ghost use Rattle.paths.specs.Children.{child as childOf, nodes_in};
+ghost use Rattle.walks.specs.Walk.{deepest as deepest_of, reached, held};
+ghost use Rattle.paths.specs.Children.{child as child_of, nodes_in};
 
 use numbers::wide;
 
@@ -22,7 +22,7 @@ pub fn number_at(table: &[u16], place: usize) -> usize
 
 // The child of this letter, 0 for none. No more children are looked at than the node has, and none behind a greater letter.
 pub fn child(table: &[u16], parent: usize, letter: usize) -> usize
-    ensures { (result ≡ childOf table.now parent letter) × (result < 131072) }
+    ensures { (result ≡ child_of table.now parent letter) × (result < 131072) }
 {
     if table.len() <= parent {
         return 0;
@@ -45,7 +45,7 @@ pub fn child(table: &[u16], parent: usize, letter: usize) -> usize
 
 // The rule that the deepest node passed holds, of those that hold one, when the word's letters are followed from the root.
 pub fn deepest(table: &[u16], root: usize, word: &[u8]) -> usize
-    ensures { result ≡ deepestOf (nodes_in table.now) root (inward word.now) }
+    ensures { result ≡ deepest_of (nodes_in table.now) root (inward word.now) }
 {
     if table.len() <= root {
         return 0;

@@ -13,21 +13,21 @@ use Rattle.records.specs.Records.{faulty_end, by_kind}
 use Rattle.records.specs.RecordAnswers.{by_frame}
 use Rattle.records.specs.RecordLaws.{at_group, at_rule, at_end}
 
-module _ (ofGroup ofRule : ℕ → List ℕ → Record) (ofEnd : List ℕ → Record) (sheet : List ℕ) (at : ℕ) where
+module _ (of_group of_rule : ℕ → List ℕ → Record) (of_end : List ℕ → Record) (sheet : List ℕ) (at : ℕ) where
   abbrev told : Record
-  told = by_frame ofGroup ofRule ofEnd sheet at
+  told = by_frame of_group of_rule of_end sheet at
 
   pub frame_cut : cut (drop at sheet) ≡ true → Faulty ≡ told
   frame_cut short = simp short
 
   module _ {k b next : ℕ} (is : FramedAt sheet at k b next) where
-    pub frame_group : k ≡ 1 → ofGroup b (take (next - b) (drop b sheet)) ≡ told
+    pub frame_group : k ≡ 1 → of_group b (take (next - b) (drop b sheet)) ≡ told
     frame_group one = rw (is.body_is, is.place_is, is.whole, at_group _ _ _ _ _ (sym is.kind_is ∙ one))
 
-    pub frame_rule : k ≡ 2 → ofRule b (take (next - b) (drop b sheet)) ≡ told
+    pub frame_rule : k ≡ 2 → of_rule b (take (next - b) (drop b sheet)) ≡ told
     frame_rule two = rw (is.body_is, is.place_is, is.whole, at_rule _ _ _ _ _ (sym is.kind_is ∙ two))
 
-    pub frame_end : k ≡ 3 → ofEnd (drop at sheet) ≡ told
+    pub frame_end : k ≡ 3 → of_end (drop at sheet) ≡ told
     frame_end three = rw (is.whole, at_end _ _ _ _ _ (sym is.kind_is ∙ three))
 
     pub frame_other : (k ≡ 1 → ⊥) → (k ≡ 2 → ⊥) → (k ≡ 3 → ⊥) → Faulty ≡ told

@@ -22,10 +22,10 @@ end_record rest = cond (faulty_end rest) Faulty End
 
 -- the record at a place, by its frame: what is told of a group's and of a rule's body, and of an end
 abbrev pub by_frame : (ℕ → List ℕ → Record) → (ℕ → List ℕ → Record) → (List ℕ → Record) → List ℕ → ℕ → Record
-by_frame ofGroup ofRule ofEnd sheet at =
+by_frame of_group of_rule of_end sheet at =
     let rest = drop at sheet in
     let place = body_place at in
-    cond (cut rest) Faulty (by_kind (kind rest) (ofGroup place (body rest)) (ofRule place (body rest)) (ofEnd rest) Faulty)
+    cond (cut rest) Faulty (by_kind (kind rest) (of_group place (body rest)) (of_rule place (body rest)) (of_end rest) Faulty)
 
 unfoldable pub record_at : List ℕ → ℕ → Record
 record_at sheet at = by_frame group_record rule_record end_record sheet at

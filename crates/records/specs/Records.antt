@@ -92,7 +92,7 @@ faulty_end rest = not (eqb (body_length rest) 0) || not (eqb (length (after rest
 -- ## Any record
 -- the answer for a kind, or the last one for "another kind"
 unfoldable pub by_kind {ℓ} : {A : Type ℓ} → ℕ → A → A → A → A → A
-by_kind kind ofGroup ofRule ofEnd other = cond (eqb kind 1) ofGroup (cond (eqb kind 2) ofRule (cond (eqb kind 3) ofEnd other))
+by_kind kind of_group of_rule of_end other = cond (eqb kind 1) of_group (cond (eqb kind 2) of_rule (cond (eqb kind 3) of_end other))
 
 -- the record is faulty whatever came before it
 unfoldable pub faulty_alone : List ℕ → Bool

@@ -42,9 +42,9 @@ unfoldable pub read_rest : ℕ → ℕ → ℕ → ℕ → List ℕ → Rest
 read_rest zero groups rules place rest = faulty_at_lem place
 read_rest (suc more) groups rules place rest =
     let next = place + record_length rest in
-    let afterGroup = group_then (gate (body rest)) (read_rest more (suc groups) rules next (after rest)) in
-    let afterRule = rule_then (rule (body rest)) (read_rest more groups (suc rules) next (after rest)) in
-    cond (faulty groups rules rest) (faulty_at_lem place) (by_kind (kind rest) afterGroup afterRule (holding [] []) (faulty_at_lem place))
+    let after_group = group_then (gate (body rest)) (read_rest more (suc groups) rules next (after rest)) in
+    let after_rule = rule_then (rule (body rest)) (read_rest more groups (suc rules) next (after rest)) in
+    cond (faulty groups rules rest) (faulty_at_lem place) (by_kind (kind rest) after_group after_rule (holding [] []) (faulty_at_lem place))
 
 abbrev pub rest_at : List ℕ → ℕ → ℕ → ℕ → Rest
 rest_at sheet at groups rules = read_rest (length (drop at sheet)) groups rules at (drop at sheet)

@@ -25,7 +25,7 @@ use Rattle.translations.specs.Translations.{laid_out, translation}
 use Rattle.levels.specs.LevelFaithful.{layout_faithful}
 use Rattle.translations.specs.AnsweredTranslation.{translated_0, translated_leaves}
 use Rattle.siblings.specs.Chains.{nodes_in as chained}
-use Rattle.siblings.specs.Layout.{table_of as siblingsOf}
+use Rattle.siblings.specs.Layout.{table_of as siblings_of}
 use Rattle.siblings.specs.LayoutFaithful.{siblings_faithful}
 use Rattle.judging.specs.Judgements.{right_table}
 use Rattle.paths.specs.Children.{nodes_in}
@@ -53,11 +53,11 @@ demand_3_outcome groups fits word =
 -- W-206: "a walk over the new layout gives what a walk over the old one gave, for every accepted sheet and word"
 pub as_before : (sheet : List ℕ) → Accepted sheet → (word : List ℕ)
     → walk_word (nodes_in (table_of (groups_of sheet))) (groups_of sheet) word
-    ≡ walk_word (chained (siblingsOf (groups_of sheet))) (groups_of sheet) word
+    ≡ walk_word (chained (siblings_of (groups_of sheet))) (groups_of sheet) word
 as_before sheet is word =
     let groups = groups_of sheet in
     demand_3 groups (within_bounds sheet groups is) word
-    ∙ sym (faithful_walks_words (chained (siblingsOf groups)) groups (siblings_faithful groups) word)
+    ∙ sym (faithful_walks_words (chained (siblings_of groups)) groups (siblings_faithful groups) word)
 
 -- ## Of runs
 

@@ -6,7 +6,7 @@ ghost use Rattle.paths.specs.Children.{nodes_in};
 ghost use Rattle.walks.specs.Walk.{walk_group, walk_word};
 ghost use Rattle.tables.specs.WalkAnswers.{WalkedAs};
 ghost use Rattle.tables.specs.GroupStepLaws.{Stepped};
-ghost use Rattle.tables.specs.TryLaws.{Readable, PickedAs, picked, rules_of, obeys as obeysOf};
+ghost use Rattle.tables.specs.TryLaws.{Readable, PickedAs, picked, rules_of, obeys as obeys_of};
 
 use passing::pass;
 use paths::{deepest, held_at};
@@ -30,7 +30,7 @@ fn obeys(
     word: &[u8],
 ) -> bool
     requires { root < 65536 }
-    ensures { result ≡ obeysOf (nodes_in table.now) root found word.now number condition
+    ensures { result ≡ obeys_of (nodes_in table.now) root found word.now number condition
         ending.now }
 {
     if number < found {

@@ -4,7 +4,7 @@ use Rattle.std.specs.Prelude.{◌≡◌, refl, List, [], ◌∷◌, ◌++◌, le
 use Rattle.std.proofs.Common.{sym, ap, add-one, arith, drop_of_length-le, drop-drop}
 use Rattle.std.proofs.Math.ListN.{length-append, length-drop}
 use Rattle.paper.specs.Numbered.{number_of}
-use Rattle.paper.specs.Words.{judged, taken as judgement-taken}
+use Rattle.paper.specs.Words.{judged, taken as judgement_taken}
 use Rattle.paper.specs.WordsLaws.{judged_taken}
 use Rattle.printed.specs.PrintedLaws.{Passed, no_line_yet, at_nothing, one_more, at_end}
 use Rattle.printed.specs.LineNumbers.{first_here}
@@ -48,7 +48,7 @@ module _ {list : List ℕ} {at passed first : ℕ} (state : State list at passed
     pub word_long : word ≡ length (take word rest)
     word_long = sym line.word_is
 
-    pub word_taken : judged (take word rest) ≡ judgement-taken
+    pub word_taken : judged (take word rest) ≡ judgement_taken
     word_taken =
         let form = line.of_form in
         judged_taken (take word rest) (λ none. omega (arith, form.some_letter)) form.word_short form.word_small

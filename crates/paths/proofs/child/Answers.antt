@@ -1,7 +1,7 @@
 use mathlib.Core.Path.{sym, ◌∙◌}
 use lib.Dec.{lit<}
 use native.Mathlib.Omega.{arith}
-use Rattle.paths.specs.Children.{child as childOf}
+use Rattle.paths.specs.Children.{child as child_of}
 use Rattle.paths.specs.ChildLaws.{child_beyond, sought_here, sought-past, sought_next, sought-over}
 use Rattle.paths.proofs.child.Goals as goal
 
@@ -22,7 +22,7 @@ pub overflow_add-parent-2 : goal.overflow_add-parent-2
 overflow_add-parent-2 c = omega arith
 
 pub loop-left-init : goal.loop-left-init
-unfolding childOf
+unfolding child_of
 loop-left-init c = let first = c.number_at-at.ensures in
     let count = c.number_at-left.ensures in
     (rw (first.0, count.0), omega (arith, first.1, count.1))

@@ -5,12 +5,12 @@ use mathlib.Core.Path.{◌≡◌}
 use lib.ListN.{length, take}
 use Rattle.paper.specs.Letters.{inward}
 use Rattle.paths.specs.Children.{nodes_in}
-use Rattle.walks.specs.Walk.{deepest as deepestOf}
+use Rattle.walks.specs.Walk.{deepest as deepest_of}
 use Rattle.walks.specs.WalkSteps.{or_found}
 use Rattle.paths.proofs.deepest.Given as goal
 
 abbrev pub invariant-loop-left : goal.invariant-loop-left
-invariant-loop-left l = (deepestOf (nodes_in l.table) l.root (inward l.word) ≡ or_found (nodes_in l.table) l.at l.found (inward (take l.left l.word)))
+invariant-loop-left l = (deepest_of (nodes_in l.table) l.root (inward l.word) ≡ or_found (nodes_in l.table) l.at l.found (inward (take l.left l.word)))
     × (l.at < 2 ^ 62)
     × (l.left ≤ length l.word)
 
