@@ -12,8 +12,8 @@ use Rattle.lists.specs.Correspondence.{FirstFaulty, refused_exactly, accepted_ex
 use Rattle.lists.specs.ExceptLaws.{excepting_stems}
 use Rattle.lists.specs.ListedWords.{by_listing, refused_10, accepted_outcome, answered_10}
 use Rattle.texts.specs.ListedTexts.{listed_text}
-use Rattle.texts.specs.OutcomeLaws.{counts_within}
-use Rattle.texts.specs.ListedLaws.{listed_bounds}
+use Rattle.texts.proofs.OutcomeLaws.{counts_within}
+use Rattle.texts.proofs.ListedLaws.{listed_bounds}
 use Rattle.texts.specs.ListedLaws.{refused_10 as text_refused_10, accepted_text}
 use Rattle.lunarbugle.specs.Packed.{packed_text, packed_listed, packed_listed_text}
 

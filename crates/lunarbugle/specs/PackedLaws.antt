@@ -8,7 +8,8 @@ use Rattle.paper.specs.Words.{word_outcome}
 use Rattle.paper.specs.Answered.{RightLength, FirstOther, answered_place}
 use Rattle.paper.specs.Demand2.{outcome_bounds}
 use Rattle.texts.specs.Texts.{text_outcome}
-use Rattle.texts.specs.OutcomeLaws.{number_within, counts_within}
+use Rattle.texts.specs.OutcomeLaws.{number_within}
+use Rattle.texts.proofs.OutcomeLaws.{counts_within}
 use Rattle.lunarbugle.specs.Packed.{packed, packed_text}
 
 -- ## Of a word, and of a text

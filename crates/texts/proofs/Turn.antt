@@ -13,7 +13,8 @@ use Rattle.pieces.specs.Next.{gap, next_word_at}
 use Rattle.pieces.specs.PiecesLaws.{leading_letter, leading_other, leading_stands, pieces_letter, begins_with_word}
 use Rattle.pieces.specs.NextLaws.{pieces_gap, part-leading, Found, start_within, part_length}
 use Rattle.texts.specs.Texts.{Ran, stemmed_to, of_word, of_piece, ◌then◌, of_pieces, run_text}
-use Rattle.texts.specs.TextsLaws.{then_assoc, then_nothing, of_pieces-append, long_word}
+use Rattle.texts.specs.TextsLaws.{then_assoc, then_nothing, of_pieces-append}
+use Rattle.texts.proofs.TextsLaws.{long_word}
 
 -- bytes that are not in words, with nothing counted
 abbrev pub plain : List ℕ → Ran

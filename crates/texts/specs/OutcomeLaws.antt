@@ -1,14 +1,11 @@
 -- What holds of every call on a text, by any word rule: it is refused exactly over 65,536 bytes, and the counts are those of the
 -- words; by one that never lengthens a word, the length stays, and every byte outside words stays where it is.
-use Rattle.std.specs.Prelude.{ℕ, ◌+◌, ◌≤◌, ◌<◌, ◌≡◌, refl, false, ◌↔◌, ◌⊎◌, List, ltb, length, get_or}
+use Rattle.std.specs.Prelude.{ℕ, ◌≤◌, ◌<◌, ◌≡◌, refl, ◌↔◌, ◌⊎◌, List, ltb, length}
 use Rattle.std.proofs.Common.{ap, inl, inr, arith, ltb-true, ltb-false, lt-ltb, le-ltb}
 use Rattle.paper.specs.Groups.{Reading}
-use Rattle.paper.specs.LengthLaws.{NeverLengthens}
 use Rattle.paper.specs.TestLaws.{by_test}
-use Rattle.pieces.specs.Pieces.{is_letter, pieces}
 use Rattle.texts.specs.Texts.{Outcome, run_text, refused, finished, text_outcome}
 use Rattle.texts.specs.TextAnswers.{Answered}
-use Rattle.texts.specs.TextsLaws.{word_count, words_within, counts_add_up, length-stays, others_stay}
 use Rattle.answers.specs.declared.TextRun.TheVariants.{Done, TooLong}
 
 module _ (rule : List ℕ → Reading) (text : List ℕ) where
@@ -21,7 +18,7 @@ module _ (rule : List ℕ → Reading) (text : List ℕ) where
   finished_within short = rw (le-ltb 65536 (length text) short)
 
   -- what both ways of a call have, every call has
-  either_way : (P : Outcome → Type 0) → (65536 < length text → P (refused text))
+  pub either_way : (P : Outcome → Type 0) → (65536 < length text → P (refused text))
       → (length text ≤ 65536 → P (finished (run_text rule text)))
       → P (text_outcome rule text)
   either_way P long short =
@@ -56,23 +53,3 @@ module _ (rule : List ℕ → Reading) (text : List ℕ) where
 
   pub number_within : (text_outcome rule text).number ≤ 5
   number_within = either_way (λ o. o.number ≤ 5) (λ long. omega arith) (λ short. omega arith)
-
-  pub outcome_counts : length text ≤ 65536 → (text_outcome rule text).stemmed + (text_outcome rule text).left ≡ word_count (pieces text)
-  outcome_counts short = rw (finished_within short) (counts_add_up rule text)
-
-  -- so the counts are small numbers
-  pub counts_within : (text_outcome rule text).stemmed + (text_outcome rule text).left ≤ 65536
-  counts_within =
-      either_way (λ o. o.stemmed + o.left ≤ 65536) (λ long. omega arith)
-      (λ short. omega (arith, counts_add_up rule text, words_within text))
-
-  module _ (never : NeverLengthens rule) where
-    pub outcome-length : length (text_outcome rule text).text ≡ length text
-    outcome-length =
-        either_way (λ o. length o.text ≡ length text) (λ long. refl) (λ short. length-stays rule never text)
-
-    pub outcome_others : (at : ℕ) → at < length text → is_letter (get_or text at 0) ≡ false
-        → get_or (text_outcome rule text).text at 0 ≡ get_or text at 0
-    outcome_others at inside separates =
-        either_way (λ o. get_or o.text at 0 ≡ get_or text at 0) (λ long. refl)
-        (λ short. others_stay rule never text at inside separates)

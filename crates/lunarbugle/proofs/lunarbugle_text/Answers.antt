@@ -6,7 +6,8 @@ use native.Mathlib.Omega.{arith}
 use Rattle.paper.specs.Shipped.{shipped}
 use Rattle.paper.specs.Words.{stem}
 use Rattle.texts.specs.Texts.{text_outcome}
-use Rattle.texts.specs.OutcomeLaws.{number_within, counts_within}
+use Rattle.texts.specs.OutcomeLaws.{number_within}
+use Rattle.texts.proofs.OutcomeLaws.{counts_within}
 use Rattle.lunarbugle.specs.Packed.{packed_text}
 use Rattle.lunarbugle.proofs.lunarbugle_text.Goals as goal
 use Rattle.lunarbugle.proofs.lunarbugle_text.Goals.{After-of_text-reply}

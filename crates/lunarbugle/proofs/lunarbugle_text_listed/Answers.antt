@@ -7,7 +7,8 @@ use native.Mathlib.Omega.{arith}
 use Rattle.paper.specs.Shipped.{shipped}
 use Rattle.paper.specs.Words.{stem}
 use Rattle.texts.specs.ListedTexts.{listed_text}
-use Rattle.texts.specs.ListedLaws.{Bounds, listed_bounds}
+use Rattle.texts.specs.ListedLaws.{Bounds}
+use Rattle.texts.proofs.ListedLaws.{listed_bounds}
 use Rattle.lunarbugle.specs.Packed.{packed_listed_text}
 use Rattle.lunarbugle.proofs.lunarbugle_text_listed.Goals as goal
 use Rattle.lunarbugle.proofs.lunarbugle_text_listed.Goals.{After-of_listed_text-reply}
