@@ -1,11 +1,11 @@
 /* Times the text run with an exception list against the run without one, by the entries for C, on one text of 64 KiB. The lists have
-   the close alone, or 10, 100 and 1,000 records: for words that the text has not, so that each of its words is held against every
-   record; and for words of the text, spread over it. First each run has to give what follows word by word. In each round every list
-   is used once, in turn; the median round counts.
+   the close alone, or 10, 100, 1,000 and 10,000 records for words that the text has not, so that each of its words is held against every
+   record; and 10, 100, 1,000 and 5,000 for words of the text, spread over it. First each run has to give what follows word by word. In
+   each round every list is used once, in turn; the median round counts.
 
    lists FILE ROUNDS    FILE has a word of small letters on each line
 
-   The exit status is 1 if a record takes more than 1.5 times as long among 10,000 as among 1,000: the time is to grow with the list,
+   The exit status is 1 if a record takes more than 1.5 times as long among the most as among 1,000: the time is to grow with the list,
    and no faster. Fewer records are not judged, as a processor may foresee the branches of a hundred, and of no thousand. */
 
 #include "lunarbugle.h"
@@ -26,6 +26,7 @@ struct list {
     const char *name;
     size_t records;
     int is_of_text; /* whether its words are in the text */
+    int is_judged; /* by the list before it */
     uint8_t bytes[MOST_RECORDS * MOST_RECORD + 4];
     size_t length; /* 0, which is no list, is for the run without one */
 };
@@ -36,10 +37,11 @@ static struct list lists[] = {
     {.name = "10 records, for words not in the text", .records = 10},
     {.name = "100 records, for words not in the text", .records = 100},
     {.name = "1,000 records, for words not in the text", .records = 1000},
-    {.name = "10,000 records, for words not in the text", .records = 10000},
+    {.name = "10,000 records, for words not in the text", .records = 10000, .is_judged = 1},
     {.name = "10 records, for words of the text", .records = 10, .is_of_text = 1},
     {.name = "100 records, for words of the text", .records = 100, .is_of_text = 1},
     {.name = "1,000 records, for words of the text", .records = 1000, .is_of_text = 1},
+    {.name = "5,000 records, for words of the text", .records = 5000, .is_of_text = 1, .is_judged = 1},
 };
 
 enum { NO_LIST, CLOSE_ALONE, LISTS = sizeof lists / sizeof *lists };
@@ -151,10 +153,10 @@ int main(int count, char **arguments)
             printf(" %11.2f %15.2f", a_record[list], a_record[list] * 1000 / text_words);
         }
         printf("\n");
-        if (lists[list].records == MOST_RECORDS)
+        if (lists[list].is_judged)
             grows_faster |= a_record[list] > MOST_RATIO * a_record[list - 1];
     }
     if (grows_faster)
-        printf("lists: a record takes more than %.1f times as long among 10,000 as among 1,000\n", MOST_RATIO);
+        printf("lists: a record takes more than %.1f times as long among the most as among 1,000\n", MOST_RATIO);
     return grows_faster;
 }

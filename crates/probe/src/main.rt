@@ -8,7 +8,7 @@
 
 use requests::input::Start;
 use requests::{input, output};
-use requests_sheets::{lines, sheet, table};
+use requests_sheets::{sheet, table, written};
 use requests_words::{list, text, vocabulary, word};
 use std::io;
 use std::io::{Read, Write};
@@ -22,7 +22,7 @@ fn answered(from: &mut impl Read, to: &mut impl Write, kind: u8) -> io::Result<b
         4 => sheet::answered(from, to),
         5 => table::answered_translation(from, to),
         6 => table::answered_run(from, to),
-        7 => lines::answered(from, to),
+        7 => written::answered(from, to),
         8 | 9 => list::answered_word(from, to, kind),
         10 => list::answered_text(from, to),
         11 => vocabulary::answered(from, to),

@@ -2,6 +2,6 @@
 // the request was whole.
 #![tactic(auto)]
 
-pub mod lines;
 pub mod sheet;
 pub mod table;
+pub mod written;

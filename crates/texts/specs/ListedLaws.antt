@@ -1,6 +1,6 @@
--- What holds of every call on a text with a list, over any word rule: when it is refused, what a list of a close alone comes to, that
--- the order of the records matters only among those for one word; and demand 2: "a listed word has its listed stem, any other word as
--- before".
+-- What holds of every call on a text with a list, over any word rule: when it is refused, what a list of a close alone comes to, and that
+-- the order of the records matters only among those for one word. Demand 2, "a listed word has its listed stem, any other word as
+-- before", is shown in proofs/.
 use Rattle.std.specs.Prelude.{ℕ, ◌≤◌, ◌<◌, ◌≡◌, refl, ◌↔◌, ◌⊎◌, List, [], length}
 use Rattle.std.proofs.Common.{sym, ap, ◌∙◌, ⊎_elim, arith}
 use Rattle.paper.specs.Groups.{Reading}

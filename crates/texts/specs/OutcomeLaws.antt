@@ -1,5 +1,4 @@
--- What holds of every call on a text, by any word rule: it is refused exactly over 65,536 bytes, and the counts are those of the
--- words; by one that never lengthens a word, the length stays, and every byte outside words stays where it is.
+-- What holds of every call on a text, by any word rule: it is refused exactly over 65,536 bytes. Its counts and its length are in proofs/.
 use Rattle.std.specs.Prelude.{ℕ, ◌≤◌, ◌<◌, ◌≡◌, refl, ◌↔◌, ◌⊎◌, List, ltb, length}
 use Rattle.std.proofs.Common.{ap, inl, inr, arith, ltb-true, ltb-false, lt-ltb, le-ltb}
 use Rattle.paper.specs.Groups.{Reading}

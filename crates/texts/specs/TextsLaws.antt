@@ -1,6 +1,5 @@
--- What people ask of a text run, by any word rule: its length stays, every byte outside words stays where it is, words over
--- 64 letters stay with their capitals, the two counts add up to the words, and what is done at one word does not depend on
--- the rest of the text.
+-- What is done at one word of a text does not depend on the rest of the text, by any word rule. What people ask of a text run, that its
+-- length stays and its counts add up, stands in proofs/.
 use Prim.Native.Nat.{ℕ, suc, ◌≤◌}
 use Rattle.std.specs.Prelude.{◌≡◌, ◌||◌}
 use Rattle.std.proofs.Math.Path.{sym, ap}

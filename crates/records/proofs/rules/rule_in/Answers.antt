@@ -104,7 +104,7 @@ action-test : (c : After-faulty_action)
     → c.faulty_action.result ≡ faulty_action c.args.body.now
 action-test c = c.faulty_action.ensures ∙ action_is _ _ c.wide-n.ensures.value
 
--- ## The needs
+-- ## The goals
 pub returns-then-body-lt4 : goal.returns-then-body-lt4
 unfolding faulty_numbers
 returns-then-body-lt4 c = by_numbers _ _ (simp (lt-ltb _ _ c.if-body-lt4.true))
