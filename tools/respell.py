@@ -136,13 +136,15 @@ def make_room(root):
     """Fields that would stand beside a definition of the same name in one file get another name first."""
     for (crates, old), new in ROOM.items():
         for crate in crates:
-            for path in glob.glob(os.path.join(root, 'crates', crate, '**/*.antt'), recursive=True):
+            for path in (it for it in antt(root) if f'/crates/{crate}/' in it):
                 rewrite(path, lambda text: re.sub(r'(?<![\w-])' + old + r'(?![\w-])', new, text))
 
 
 def main():
     words = [w for w in sys.argv[1:] if not w.startswith('--')]
     root = words[0] if words else os.path.dirname(os.path.dirname(os.path.realpath(__file__)))
+    if '--list' not in sys.argv and os.path.exists(os.path.join(root, 'docs/PORT.md')):
+        sys.exit('respell: docs/PORT.md is there, so this was done: a second run would take the new names apart')
     names, members, said = renamings(root)
     if '--list' in sys.argv:
         for old, new in names.items():
