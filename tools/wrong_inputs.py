@@ -147,13 +147,15 @@ def result_of(call):
     crate, *modules, name = call.path.split("::")
     source = ROOT / "crates" / crate / "src" / f"{'/'.join(modules) or 'lib'}.rt"
     signature = re.search(rf"^pub (?:extern \"C\" )?fn {name}\([^)]*\)(?: -> (.*))?$", source.read_text(), re.MULTILINE)
-    return signature[1] or ""
+    return (signature[1] or "").replace("'static ", "")
 
 
 def written(kind):
     """The statements that write a result of this type."""
     if kind.startswith("["):
         return "output::table(to, &result)?;" if kind.startswith("[u16") else "output::bytes(to, &result)?;"
+    if kind.startswith("Result<usize, "):
+        return "let reply = answers::in_numbers(result); output::reply(to, reply.number, reply.value)?;"
     return {
         "": "",
         "bool": "output::byte(to, if result { 1 } else { 0 })?;",
@@ -161,13 +163,8 @@ def written(kind):
         "usize": "output::number(to, result)?;",
         "u64": "output::number(to, (result % 4294967296) as usize)?; output::number(to, (result / 4294967296) as usize)?;",
         "&[u8]": "output::bytes(to, result)?;",
-        "Ran": "let reply = answers::of_run(result); output::reply(to, reply.number, reply.value)?;",
         "Run": "output::number(to, result.end)?; output::byte(to, if result.small { 1 } else { 0 })?;",
-        "Shape": "match result { forests::Shape::Forest(nodes) => output::reply(to, 1, nodes)?, "
-        "forests::Shape::Other => output::reply(to, 0, 0)? }",
-        "ListChecked": "let reply = answers::of_listed_word(match result { answers::ListChecked::Accepted(count) => "
-        "answers::ListedWord::Word(answers::Answer::Done(count)), answers::ListChecked::Refused(place) => "
-        "answers::ListedWord::Refused(place) }); output::reply(to, reply.number, reply.value)?;",
+        "Option<usize>": "match result { Some(value) => output::reply(to, 1, value)?, None => output::reply(to, 0, 0)? }",
     }[kind]
 
 
@@ -185,7 +182,6 @@ def program_of(call):
         "output::bytes(to, &room)?;" if room else "",
     ]
     return f"""use requests::input;
-use requests::input::Start;
 use requests::output;
 use std::io;
 use std::io::Write;
@@ -197,8 +193,8 @@ fn shown(to: &mut impl Write) -> io::Result<()> {{
 
 fn main(rt: HostRuntime) -> io::Result<()> {{
     match input::first_byte(&mut rt.stdin())? {{
-        Start::With(_) => shown(&mut rt.stdout()),
-        Start::Ended => Ok(()),
+        Some(_) => shown(&mut rt.stdout()),
+        None => Ok(()),
     }}
 }}
 """
@@ -207,7 +203,7 @@ fn main(rt: HostRuntime) -> io::Result<()> {{
 def values_of(call, coded):
     """What the program of a call wrote: its result and the room."""
     kind = result_of(call)
-    sizes = {"": 0, "bool": 1, "u8": 1, "usize": 4, "u64": 8, "Ran": 5, "Run": 5, "Shape": 5, "ListChecked": 5}
+    sizes = {"": 0, "bool": 1, "u8": 1, "usize": 4, "u64": 8, "Ran": 5, "Run": 5, "Option<usize>": 5, "ListChecked": 5}
     size = sizes.get(kind, len(coded))
     result, room = coded[:size], coded[size:]
     if len(result) < size:
@@ -218,8 +214,8 @@ def values_of(call, coded):
         values = list(struct.unpack("<BI", result))
     elif kind == "Run":
         values = [int.from_bytes(result[:4], "little"), "true" if result[4] else "false"]
-    elif kind == "Shape":
-        values = [f"Forest({int.from_bytes(result[1:], 'little')})" if result[0] else "Other"]
+    elif kind == "Option<usize>":
+        values = [f"Some({int.from_bytes(result[1:], 'little')})" if result[0] else "None"]
     elif kind == "bool":
         values = ["true" if result[0] else "false"]
     elif kind in ("u8", "usize", "u64"):

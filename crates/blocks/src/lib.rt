@@ -8,12 +8,29 @@ ghost use Rattle.blocks.specs.Indexes.{index_2, index_3, index_4};
 
 // The rules of a group with one letter second last, from a number up to another; and which letters they have last and third
 // last, a bit for each.
-#[derive(Drop)]
+#[derive(Clone, Copy)]
 pub struct Block {
     pub from: usize,
     pub to: usize,
     pub lasts: u32,
     pub thirds: u32,
+}
+
+impl Block {
+    // Whether a word's last and third last letter are in the block's sets.
+    pub fn keeps(self, word: &[u8]) -> bool
+        ensures { result ≡ passes self.lasts self.thirds word.now }
+    {
+        has(self.lasts, conditions::letter_at(word, 0))
+            & has(self.thirds, conditions::letter_at(word, 2))
+    }
+}
+
+// Whether a letter is in a set.
+fn has(set: u32, letter: u8) -> bool
+    ensures { result ≡ member set letter }
+{
+    (set >> (letter % 32)) % 2 == 1
 }
 
 // Step 2. For a letter that is not in the index no letter passes. Some such letters have an arm, so that the arms are dense and the match
@@ -243,18 +260,4 @@ pub fn block_4(second: u8) -> Block
             thirds: 1,
         },
     }
-}
-
-// Whether a letter is in a set.
-fn has(set: u32, letter: u8) -> bool
-    ensures { result ≡ member set letter }
-{
-    (set >> (letter % 32)) % 2 == 1
-}
-
-// Whether a word's last and third last letter are in a block's sets.
-pub fn kept(word: &[u8], lasts: u32, thirds: u32) -> bool
-    ensures { result ≡ passes lasts thirds word.now }
-{
-    has(lasts, conditions::letter_at(word, 0)) & has(thirds, conditions::letter_at(word, 2))
 }

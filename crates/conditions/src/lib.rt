@@ -57,11 +57,7 @@ pub fn judged(condition: u8, part: &[u8], state: usize, before: usize, earlier: 
 fn state_at(states: &[u8], at: usize) -> usize
     ensures { result ≡ get_or states.now at 0 }
 {
-    if at < states.len() {
-        states[at] as usize
-    } else {
-        0
-    }
+    states.get(at).map_or(0, |state| usize::from(*state))
 }
 
 // The least state of a part of which the condition holds, for those that the state alone decides; for others more than a state can be.
@@ -77,16 +73,6 @@ fn least(condition: u8) -> usize
     }
 }
 
-// So many fewer, and 0 where there are not as many.
-pub fn less(n: usize, k: usize) -> usize
-    ensures { result ≡ n - k }
-{
-    if n < k {
-        return 0;
-    }
-    n - k
-}
-
 // Whether the condition of this number holds of a part, by the states of a word that the part begins.
 pub fn holds_by(condition: u8, part: &[u8], states: &[u8]) -> bool
     ensures { result ≡ holds_noted condition part.now states.now }
@@ -97,6 +83,7 @@ pub fn holds_by(condition: u8, part: &[u8], states: &[u8]) -> bool
         return least(condition) <= state_at(states, n);
     }
     let state = state_at(states, n);
-    let before = state_at(states, less(n, 1));
-    judged(condition, part, state, before, state_at(states, less(n, 2)))
+    let before = state_at(states, n.saturating_sub(1));
+    let earlier = state_at(states, n.saturating_sub(2));
+    judged(condition, part, state, before, earlier)
 }

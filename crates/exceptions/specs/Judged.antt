@@ -1,20 +1,18 @@
 -- What a call on a word gives with a list that was judged before, whatever its bytes: the records that fit are words with their stems.
-use Rattle.std.specs.Prelude.{ℕ, List, length}
+use Rattle.std.specs.Prelude.{ℕ, Some, None, Result, List, length}
 use Rattle.std.proofs.Math.Option.{Option, none, some}
 use Rattle.paper.specs.Groups.{Reading, done}
 use Rattle.paper.specs.Words.{placed, Outcome, Gives, reading_outcome, word_outcome}
 use Rattle.answers.specs.Answers.{number_of, value_of, number_of_listed, value_of_listed}
-use Rattle.answers.specs.declared.Answer.{Answer}
-use Rattle.answers.specs.declared.ListedWord.{ListedWord}
+use Rattle.answers.specs.declared.WordRefusal.{WordRefusal}
+use Rattle.answers.specs.declared.ListedRefusal.{ListedRefusal}
 use Rattle.lists.specs.Lists.{find}
 use Rattle.lists.specs.Searches.{passed}
-use Rattle.exceptions.specs.declared.Wrote.{Wrote}
-use Rattle.exceptions.specs.declared.Wrote.TheVariants.{Stem, Nothing}
 
 -- what is written, and what then stands in the word's place
-abbrev pub wrote_of : Option (List ℕ) → Wrote
-wrote_of (some stem) = Stem (length stem)
-wrote_of none = Nothing
+abbrev pub wrote_of : Option (List ℕ) → Rattle.std.specs.Prelude.Option ℕ
+wrote_of (some stem) = Some (length stem)
+wrote_of none = None
 
 abbrev pub left_by : Option (List ℕ) → List ℕ → List ℕ
 left_by (some stem) word = placed word stem
@@ -29,8 +27,8 @@ unfoldable pub judged_outcome : (List ℕ → Reading) → List ℕ → List ℕ
 judged_outcome rule list word = answered_by rule (find (passed list) word) word
 
 -- an answer gives an outcome by its number and value
-abbrev pub Answered : Outcome → Answer → List ℕ → Type 0
+abbrev pub Answered : Outcome → Result ℕ WordRefusal → List ℕ → Type 0
 Answered outcome answer after = Gives outcome (number_of answer) (value_of answer) after
 
-abbrev pub AnsweredListed : Outcome → ListedWord → List ℕ → Type 0
+abbrev pub AnsweredListed : Outcome → Result ℕ (ListedRefusal WordRefusal) → List ℕ → Type 0
 AnsweredListed outcome answer after = Gives outcome (number_of_listed answer) (value_of_listed answer) after

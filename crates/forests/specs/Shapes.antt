@@ -1,11 +1,9 @@
 -- What is answered of a table's shape, and what the single functions that look at it say.
-use Rattle.std.specs.Prelude.{ℕ, suc, ◌*◌, ◌<◌, ◌≤◌, ◌≡◌, refl, Bool, true, false, List}
+use Rattle.std.specs.Prelude.{ℕ, suc, ◌*◌, ◌<◌, ◌≤◌, ◌≡◌, refl, Bool, true, false, List, Option, Some, None}
 use Rattle.std.proofs.Common.{ap}
 use Rattle.paths.specs.Children.{letter}
 use Rattle.forests.specs.Forest.{Forest as Forested}
 use Rattle.forests.specs.TotalLaws.{one_count}
-use Rattle.forests.specs.declared.Shape.{Shape}
-use Rattle.forests.specs.declared.Shape.TheVariants.{Forest, Other}
 
 -- an answer to a question: yes where it is so, no where it is not
 abbrev pub Told : Type 0 → Bool → Type 0
@@ -31,13 +29,13 @@ abbrev pub NoForest : List ℕ → ℕ → Type 0
 NoForest table roots = (nodes : ℕ) → nodes ≤ 1552 → Forested table roots nodes → ⊥
 
 -- a forest of so many nodes; or none
-abbrev pub ShapedAs : List ℕ → ℕ → Shape → Type 0
-ShapedAs table roots (Forest nodes) = Forested table roots nodes × (nodes ≤ 1552)
-ShapedAs table roots Other = NoForest table roots
+abbrev pub ShapedAs : List ℕ → ℕ → Option ℕ → Type 0
+ShapedAs table roots (Some nodes) = Forested table roots nodes × (nodes ≤ 1552)
+ShapedAs table roots None = NoForest table roots
 
 -- one table, one answer
-pub shaped_one : (table : List ℕ) (roots : ℕ) (one other : Shape) → ShapedAs table roots one → ShapedAs table roots other → one ≡ other
-shaped_one table roots (Forest nodes) (Forest many) is also = ap Forest (one_count is.0 also.0)
-shaped_one table roots (Forest nodes) Other is also = absurd (also nodes is.1 is.0)
-shaped_one table roots Other (Forest nodes) is also = absurd (is nodes also.1 also.0)
-shaped_one table roots Other Other is also = refl
+pub shaped_one : (table : List ℕ) (roots : ℕ) (one other : Option ℕ) → ShapedAs table roots one → ShapedAs table roots other → one ≡ other
+shaped_one table roots (Some nodes) (Some many) is also = ap Some (one_count is.0 also.0)
+shaped_one table roots (Some nodes) None is also = absurd (also nodes is.1 is.0)
+shaped_one table roots None (Some nodes) is also = absurd (is nodes also.1 also.0)
+shaped_one table roots None None is also = refl

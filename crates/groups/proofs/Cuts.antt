@@ -2,19 +2,22 @@
 use Prim.Native.Nat.{ℕ, ◌+◌, ◌-◌, ◌*◌, ◌≤◌}
 use native.Mathlib.Omega.{arith}
 use mathlib.Core.Path.{◌≡◌, sym, ap, ◌∙◌}
-use mathlib.Core.Bool.{Bool, true, ◌&&◌}
+use mathlib.Core.Bool.{Bool, true}
 use mathlib.Core.List.{List, ◌++◌}
 use mathlib.Core.Option.{none, some}
-use lib.Dec.{eqb, ltb}
+use Rattle.std.specs.Prelude.{Some, None}
+use Rattle.std.specs.declared.option.Option.{Option}
+use lib.Dec.{eqb}
 use lib.ListN.{length, take, drop, get_or, length-take}
 use lib.Seq.{take-add, take-take, length-take-le}
-use borrow.Author.Tests.{ltb-true}
 use Rattle.paper.specs.TestLaws.{by_test}
 use Rattle.paper.specs.Groups.{Rule, ends_with, before, obeyed, act, result, opens_next}
 use Rattle.paper.specs.GroupsLaws.{same_equal, ending_short}
 use Rattle.paper.specs.ReadingLaws.{every, every_in, obeyed_first}
 use Rattle.rules.specs.Rows.{size_at, added_at, written_at, action_at, rule_at, Rows}
-use Rattle.groups.specs.Reads.{leaves, CutOpens, cuts, cut_at, left_at, picked}
+use Rattle.groups.specs.Reads.{leaves, CutOpens, cuts, cut_at}
+use Rattle.groups.specs.Picks.{picked, left_at, opened_at}
+use Rattle.groups.specs.declared.row.Row.{Row}
 use Rattle.groups.specs.ReadsLaws.{kept_whole}
 use Rattle.groups.proofs.Endings.{ending_size, written_size}
 
@@ -61,31 +64,25 @@ module _ (table : List ℕ) (k : ℕ) (row : Rows table (k + 1)) (word : List �
 
 -- what is left by the rule that was chosen
 pub left_cuts :
-    (table : List ℕ) (to r : ℕ)
-    → Rows table to
-    → (group : List Rule) (word : List ℕ)
-    → picked table to r ≡ obeyed word group
+    (row : Option Row) (group : List Rule) (word : List ℕ)
+    → picked row ≡ obeyed word group
     → every cuts group ≡ true
     → (len : ℕ) (opened : Bool)
-    → len ≡ left_at table to r (length word)
-    → opened ≡ (ltb r to && (rule_at table r).opens)
+    → len ≡ left_at row (length word)
+    → opened ≡ opened_at row
     → CutOpens group word len opened
 unfolding leaves result opens_next
-left_cuts table to r rows group word chosen all len opened is opens =
-    by_test (ltb r to)
-    (λ inside.
-    let obeys : obeyed word group ≡ some (rule_at table r) = sym (rw inside at chosen) in
-    let one = (obeyed_first word group (rule_at table r) obeys).chosen_one in
-    let left = row_cuts table r (omega (arith, ltb-true r to inside)) word one.ends (every_in cuts group all one.stands) in
-    let size : len ≡ cut_at table r (length word) = rw inside at is in
+left_cuts (Some row) group word chosen all len opened is opens =
+    let obeys : obeyed word group ≡ some (rule_at row.rules.now row.rule) = sym chosen in
+    let one = (obeyed_first word group (rule_at row.rules.now row.rule) obeys).chosen_one in
+    let left = row_cuts row.rules.now row.rule row.stands word one.ends (every_in cuts group all one.stands) in
     record {
-      cut = rw size (record { within = left.0; left = rw obeys left.1 });
-      opens = rw obeys (rw inside at opens);
-    })
-    (λ outside.
-    let obeys : obeyed word group ≡ none = sym (rw outside at chosen) in
-    let size : len ≡ length word = rw outside at is in
+      cut = rw is (record { within = left.0; left = rw obeys left.1 });
+      opens = rw obeys opens;
+    }
+left_cuts None group word chosen all len opened is opens =
+    let obeys : obeyed word group ≡ none = sym chosen in
     record {
-      cut = rw size (kept_whole group word obeys);
-      opens = rw obeys (rw outside at opens);
-    })
+      cut = rw is (kept_whole group word obeys);
+      opens = rw obeys opens;
+    }

@@ -1,21 +1,24 @@
 -- A rule that is obeyed in the word's place: what it leaves there, and that the states of what stands there are noted again.
-use Prim.Native.Nat.{ℕ, ◌+◌, ◌-◌, ◌*◌, ◌/◌, ◌≤◌, ◌<◌}
+use Prim.Native.Nat.{ℕ, ◌+◌, ◌-◌, ◌*◌, ◌≤◌}
 use native.Mathlib.Omega.{arith}
 use mathlib.Core.Path.{◌≡◌, refl, sym, ap, ◌∙◌}
 use mathlib.Core.Bool.{true, false}
 use mathlib.Core.List.{List, ◌++◌}
+use Rattle.std.specs.Prelude.{Some}
 use mathlib.Core.Option.{Option}
-use lib.Dec.{eqb, leb}
+use lib.Dec.{eqb}
 use lib.ListN.{length, take, get_or, length-append}
 use lib.Seq.{length-take-le, take-take, take-length, drop-append_seam}
-use borrow.Author.Tests.{leb-true, le-leb, lt-ltb}
+use borrow.Author.Tests.{le-leb, lt-ltb}
 use Rattle.paper.specs.Groups.{Rule, before, obeyed, act, result}
 use Rattle.paper.specs.States.{state}
 use Rattle.paper.specs.Noted.{ends_in_consonant, length_after, Noted, noted_at, noted_more, state_most}
 use Rattle.letters.specs.Notes.{renewed}
 use Rattle.places.specs.Put.{put_at, put_behind}
-use Rattle.rules.specs.Rows.{size_at, written_at, action_at, rule_at, Rows}
-use Rattle.groups.specs.Reads.{leaves, cut_at, picked, Stands, Written}
+use Rattle.rules.specs.Rows.{size_at, written_at, action_at, rule_at}
+use Rattle.groups.specs.Reads.{leaves, cut_at, Stands, Written}
+use Rattle.groups.specs.Picks.{picked}
+use Rattle.groups.specs.declared.row.Row.{Row}
 use Rattle.groups.specs.ReadsLaws.{shorter}
 use Rattle.groups.proofs.Endings.{ending_size, written_size}
 
@@ -69,12 +72,17 @@ stays {word} {states} {after} {new} {len} {part} {left} letters stands inside is
 
 -- ## What a rule leaves
 
-module _ (table : List ℕ) (to k : ℕ) (rows : Rows table to) (inside : k < to) {place states : List ℕ} {len : ℕ}
-    (stands : Stands place states len) where
-  acts_there : result (take len place) (picked table to k) ≡ act (rule_at table k).action (take (len - size_at table k) place)
+module _ (row : Row) {place states : List ℕ} {len : ℕ} (stands : Stands place states len) where
+  abbrev table : List ℕ
+  table = row.rules.now
+
+  abbrev k : ℕ
+  k = row.rule
+
+  acts_there : result (take len place) (picked (Some row)) ≡ act (rule_at table k).action (take (len - size_at table k) place)
   unfolding result before
   acts_there =
-      rw (lt-ltb k to inside, length-take-le len place stands.within, ending_size table k (omega arith))
+      rw (length-take-le len place stands.within, ending_size table k row.stands)
       (ap (act (rule_at table k).action) (take-take (len - size_at table k) len place (omega arith)))
 
   part_length : length (take (len - size_at table k) place) ≡ len - size_at table k
@@ -85,25 +93,25 @@ module _ (table : List ℕ) (to k : ℕ) (rows : Rows table to) (inside : k < to
       eqb (get_or table (16 * k + 1) 0) 1 ≡ true
       → {r : ℕ}
       → r ≡ cut_at table k len
-      → (take r place ≡ result (take len place) (picked table to k)) × Stands place states r
+      → (take r place ≡ result (take len place) (picked (Some row))) × Stands place states r
   unfolding cut_at rule_at action_at act
   single_there single {r} is =
       let left : r ≡ len - size_at table k - 1 = rw single at is in
-      let acts : result (take len place) (picked table to k) ≡ take (len - size_at table k - 1) place
+      let acts : result (take len place) (picked (Some row)) ≡ take (len - size_at table k - 1) place
       = acts_there ∙ rw (single, part_length) (take-take (len - size_at table k - 1) (len - size_at table k) place (omega arith)) in
       (ap (λ (n : ℕ). take n place) left ∙ sym acts, shorter stands r (omega arith))
 
   -- the part, and what the row has to write
   module _ (other : eqb (get_or table (16 * k + 1) 0) 1 ≡ false) where
-    writes_there : result (take len place) (picked table to k) ≡ take (len - size_at table k) place ++ written_at table k
+    writes_there : result (take len place) (picked (Some row)) ≡ take (len - size_at table k) place ++ written_at table k
     unfolding rule_at action_at act
     writes_there = acts_there ∙ rw other
 
     cut_length : cut_at table k len ≡ len - size_at table k + length (written_at table k)
     unfolding cut_at
-    cut_length = rw (other, written_size table k (omega arith))
+    cut_length = rw (other, written_size table k row.stands)
 
-    pub length_there : length (result (take len place) (picked table to k)) ≡ cut_at table k len
+    pub length_there : length (result (take len place) (picked (Some row))) ≡ cut_at table k len
     length_there =
         ap length writes_there
         ∙ length-append (take (len - size_at table k) place) (written_at table k)
@@ -119,7 +127,7 @@ module _ (table : List ℕ) (to k : ℕ) (rows : Rows table to) (inside : k < to
         → length after ≡ length place
         → length new ≡ length states
         → new ≡ renewed states (take left after) part
-        → (take left after ≡ result (take len place) (picked table to k)) × Stands after new left
+        → (take left after ≡ result (take len place) (picked (Some row))) × Stands after new left
     written_there cut is fits put long wide again =
         let both = stays (written_at table k) stands (omega arith) (omega (arith, cut_length)) fits put long wide again in
         (both.0 ∙ ap (λ (n : ℕ). take n place ++ written_at table k) cut ∙ sym writes_there, both.1)
@@ -137,11 +145,3 @@ unfolding leaves
 group_written {word = word} room is obeys fits =
     let both = obeys (rw is fits) in
     record { left = both.0 ∙ ap (result word) is; stands = both.1 }
-
--- ## The test of the table
-
-pub rows_stand : (table : List ℕ) (to : ℕ) → leb to (length table / 16) ≡ true → Rows table to
-rows_stand table to holds = omega (arith, leb-true to (length table / 16) holds)
-
-pub rows_pass : (table : List ℕ) (to : ℕ) → Rows table to → leb to (length table / 16) ≡ true
-rows_pass table to rows = le-leb to (length table / 16) (omega arith)

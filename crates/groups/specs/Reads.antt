@@ -1,7 +1,6 @@
 -- What a group leaves of a word, how a word that is being read stands in its place, and when a table and some of its rows are all of a
 -- group that need be read.
-use Rattle.std.specs.Prelude.{ℕ, ◌+◌, ◌-◌, ◌*◌, ◌≤◌, ◌<◌, ◌≡◌, Bool, true, cond, List, eqb, ltb, length, take, get_or}
-use Rattle.std.proofs.Math.Option.{Option, none, some}
+use Rattle.std.specs.Prelude.{ℕ, ◌+◌, ◌-◌, ◌*◌, ◌≤◌, ◌<◌, ◌≡◌, Bool, true, cond, List, eqb, length, take, get_or}
 use Rattle.paper.specs.Groups.{written, Rule, same, ends_with, before, obeyed, result, opens_next}
 use Rattle.paper.specs.ReadingLaws.{every}
 use Rattle.paper.specs.LongerFirst.{longer_first}
@@ -76,29 +75,7 @@ asks table k word states = holds_noted (rule_at table k).condition (before word 
 unfoldable pub cut_at : List ℕ → ℕ → ℕ → ℕ
 cut_at table k n = cond (eqb (get_or table (16 * k + 1) 0) 1) (n - size_at table k - 1) (n - size_at table k + added_at table k)
 
--- of those below `to`, and all n where it is none of them
-abbrev pub left_at : List ℕ → ℕ → ℕ → ℕ → ℕ
-left_at table to k n = cond (ltb k to) (cut_at table k n) n
-
--- r is the first of these rules that ends the word, or `to`
-pub record FirstFit (table : List ℕ) (from to : ℕ) (word : List ℕ) (r : ℕ) : Type 0 where
-  pub within : r ≤ to
-  pub none_before : NoneFits (rule_at table) from r word
-  pub ends : r < to → ends_with word (rule_at table r).ending ≡ true
-
--- the rule of a number below `to`, else none
-abbrev pub picked : List ℕ → ℕ → ℕ → Option Rule
-picked table to r = cond (ltb r to) (some (rule_at table r)) none
-
 -- ## What is promised, of whatever group it is
-
-abbrev pub ChosenBy : List ℕ → ℕ → ℕ → List ℕ → List ℕ → ℕ → Type 0
-ChosenBy table from to word states r =
-    (group : List Rule) → Noted word states → Narrowed table group from to word → picked table to r ≡ obeyed word group
-
-abbrev pub ChosenPaired : List ℕ → ℕ → List ℕ → List ℕ → ℕ → Type 0
-ChosenPaired table to word states r =
-    (group : List Rule) → Noted word states → Paired table group to word → picked table to r ≡ obeyed word group
 
 abbrev pub CutsBy : List ℕ → ℕ → ℕ → List ℕ → List ℕ → ℕ → Bool → Type 0
 CutsBy table from to word states r opened =
@@ -111,12 +88,6 @@ CutsFree table to word r =
 abbrev pub CutsPaired : List ℕ → ℕ → List ℕ → List ℕ → ℕ → Type 0
 CutsPaired table to word states r =
     (group : List Rule) → Noted word states → Paired table group to word → every cuts group ≡ true → Cut group word r
-
--- of a rule by its number, in the word's place
-abbrev pub Obeys : List ℕ → ℕ → ℕ → List ℕ → List ℕ → ℕ → List ℕ → List ℕ → ℕ → Type 0
-Obeys table to rule place states len after new r =
-    let left = result (take len place) (picked table to rule) in
-    Stands place states len → length left ≤ length place → (take r after ≡ left) × Stands after new r
 
 abbrev pub WritesBy : List ℕ → ℕ → ℕ → List ℕ → List ℕ → ℕ → List ℕ → List ℕ → ℕ → Type 0
 WritesBy table from to place states len after new r =

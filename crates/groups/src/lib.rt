@@ -5,6 +5,7 @@
 
 mod choosing;
 mod obeying;
+mod row;
 
 ghost use Rattle.groups.specs.Reads.{CutsBy, CutsFree, CutsPaired, WritesBy, WritesPaired};
 
@@ -12,7 +13,7 @@ use choosing::{chosen, chosen_pair, fitting};
 use obeying::{left_by, obey_by};
 
 // How many letters a group leaves of a word, and whether the next group is opened.
-#[derive(Drop)]
+#[derive(Clone, Copy)]
 pub struct Left {
     pub len: usize,
     pub opened: bool,
@@ -22,38 +23,21 @@ pub struct Left {
 pub fn cut_by(word: &[u8], states: &[u8], from: usize, to: usize, rules: &[u8]) -> Left
     ensures { CutsBy rules.now from to word.now states.now result.len result.opened }
 {
-    if to <= rules.len() / 16 {
-        let rule = chosen(word, states, from, to, rules);
-        return left_by(word, rule, to, rules);
-    }
-    Left {
-        len: word.len(),
-        opened: false,
-    }
+    left_by(word, chosen(word, states, from, to, rules))
 }
 
 // What a group of so many rules leaves that only cut and have no condition.
 pub fn cut_free(word: &[u8], to: usize, rules: &[u8]) -> usize
     ensures { CutsFree rules.now to word.now result }
 {
-    if to <= rules.len() / 16 {
-        let rule = fitting(word, 0, to, rules);
-        let left = left_by(word, rule, to, rules);
-        return left.len;
-    }
-    word.len()
+    left_by(word, fitting(word, 0, to, rules)).len
 }
 
 // What a group of so many rules leaves that only cut, the last two with one ending.
 pub fn cut_pair(word: &[u8], states: &[u8], to: usize, rules: &[u8]) -> usize
     ensures { CutsPaired rules.now to word.now states.now result }
 {
-    if (2 <= to) & (to <= rules.len() / 16) {
-        let rule = chosen_pair(word, states, to, rules);
-        let left = left_by(word, rule, to, rules);
-        return left.len;
-    }
-    word.len()
+    left_by(word, chosen_pair(word, states, to, rules)).len
 }
 
 // Reads a group in the place of a word of so many letters, and returns how many stand there then. Only rules from a number up to
@@ -69,11 +53,11 @@ pub fn write_by(
     ensures { WritesBy rules.now from to word.old states.old len
         word.new states.new result }
 {
-    if (len <= word.len()) & (to <= rules.len() / 16) {
-        let rule = chosen(&word[..len], &states[..], from, to, rules);
-        return obey_by(word, states, len, rule, to, rules);
+    if word.len() < len {
+        return len;
     }
-    len
+    let row = chosen(&word[..len], &states[..], from, to, rules);
+    obey_by(word, states, len, row)
 }
 
 // The same of a group of so many rules, the last two with one ending.
@@ -81,9 +65,9 @@ pub fn write_pair(word: &mut [u8], states: &mut [u8], len: usize, to: usize, rul
     ensures { WritesPaired rules.now to word.old states.old len
         word.new states.new result }
 {
-    if (len <= word.len()) & ((2 <= to) & (to <= rules.len() / 16)) {
-        let rule = chosen_pair(&word[..len], &states[..], to, rules);
-        return obey_by(word, states, len, rule, to, rules);
+    if word.len() < len {
+        return len;
     }
-    len
+    let row = chosen_pair(&word[..len], &states[..], to, rules);
+    obey_by(word, states, len, row)
 }

@@ -1,5 +1,5 @@
 -- One outcome for every text and every lent sheet, and when each number is given.
-use Rattle.std.specs.Prelude.{ℕ, suc, ◌<◌, ◌≡◌, refl, ◌↔◌, List, ltb, length}
+use Rattle.std.specs.Prelude.{Result, ℕ, suc, ◌<◌, ◌≡◌, refl, ◌↔◌, List, ltb, length}
 use Rattle.std.proofs.Common.{ap, arith, ltb-true, ltb-false}
 use Rattle.paper.specs.Settled.{told_one}
 use Rattle.paper.specs.TestLaws.{by_test}
@@ -7,7 +7,7 @@ use Rattle.paper.specs.Words.{Outcome, refused}
 use Rattle.answers.specs.Answers.{number_of_made, value_of_made}
 use Rattle.answers.specs.AnswerLaws.{makings}
 use Rattle.places.specs.Written.{written_to}
-use Rattle.answers.specs.declared.Made.{Made}
+use Rattle.answers.specs.declared.MakingRefusal.{MakingRefusal}
 use Rattle.printed.specs.Printed.{text_of}
 use Rattle.printed.specs.LineNumbers.{Lined, all_lines, fault_at, lined, not_both, one_number, same_lines, feeds, counted_by_feeds}
 use Rattle.lines.specs.Lines.{Line, print}
@@ -36,7 +36,7 @@ makes_one {sheet = sheet} (made lines whole fits) (made others also there) =
     ap (λ (l : List Line). written_to sheet (sheet_made l)) (same_lines reads of_form whole also)
 
 -- so the contract of the importer settles its answer and what the sheet is afterwards
-pub made_one : {text sheet after later : List ℕ} {one other : Made} → MakesTo text sheet (number_of_made one) (value_of_made one) after
+pub made_one : {text sheet after later : List ℕ} {one other : Result ℕ MakingRefusal} → MakesTo text sheet (number_of_made one) (value_of_made one) after
     → MakesTo text sheet (number_of_made other) (value_of_made other) later
     → (one ≡ other) × (after ≡ later)
 made_one a b =

@@ -1,5 +1,5 @@
 -- The way through the lines of a text: what is known at each line, and what the pass leaves.
-use Rattle.std.specs.Prelude.{ℕ, zero, suc, ◌+◌, ◌*◌, ◌≤◌, ◌<◌, ◌≡◌, refl, true, false, not, ◌&&◌, ◌||◌, List, [], ◌∷◌, ◌++◌, eqb, leb, drop}
+use Rattle.std.specs.Prelude.{ℕ, zero, suc, ◌+◌, ◌*◌, ◌≤◌, ◌<◌, ◌≡◌, refl, true, false, not, ◌&&◌, ◌||◌, Some, None, Result, Ok, Err, List, [], ◌∷◌, ◌++◌, eqb, leb, drop}
 use Rattle.std.proofs.Math.Path.{ap}
 use Rattle.std.proofs.Common.{◌∙◌, add-one, arith, length-append, length-drop, drop_of_length-le, drop-drop}
 use Rattle.std.proofs.Math.Bool.{or-true}
@@ -21,7 +21,7 @@ use Rattle.lines.specs.Reading.{found_in, rule_of, told, read_line}
 use Rattle.lines.specs.PartLaws.{inside}
 use Rattle.lines.specs.ReadingLaws.{RuleHere, found_here}
 use Rattle.lines.specs.PrintedLines.{reads}
-use Rattle.lines.specs.declared.Found.TheVariants.{Group, Rule as RuleFound, Wrong}
+use Rattle.lines.specs.declared.LineRead.TheVariants.{Group, Rule as RuleFound}
 use Rattle.lines.specs.declared.RuleLine.{RuleLine}
 use Rattle.imports.specs.Makes as Makes
 use Rattle.imports.specs.Makes.{sheet_made, record_bytes, group_lines, rule_lines, taken, WholeText, FirstAtFault, MakesTo}
@@ -29,8 +29,7 @@ use Rattle.imports.specs.MadeSheets.{made_records}
 use Rattle.imports.specs.RuleRecords.{short_parts, rule_size, group_bytes}
 use Rattle.imports.specs.TakenLaws.{of_form, group_taken, rule_taken, groups_more, groups_stay, rules_more, rules_stay, lines_counted}
 use Rattle.imports.specs.TakenLaws.{lines_bytes, bytes_more}
-use Rattle.imports.specs.declared.Passed.{Passed as Pass}
-use Rattle.imports.specs.declared.Passed.TheVariants.{Sheet, Fault}
+use Rattle.imports.specs.declared.FaultyLine.{FaultyLine}
 
 -- ## What a pass leaves
 pub record SheetPassed (text lent : List ℕ) (size : ℕ) (after : List ℕ) : Type 0 where
@@ -39,9 +38,9 @@ pub record SheetPassed (text lent : List ℕ) (size : ℕ) (after : List ℕ) : 
   pub size_is : size ≡ length (sheet_made lines)
   pub wrote : Wrote lent (sheet_made lines) after
 
-abbrev pub PassedTo : List ℕ → List ℕ → Pass → List ℕ → Type 0
-PassedTo text lent (Sheet size) after = SheetPassed text lent size after
-PassedTo text lent (Fault number) after = FirstAtFault text number
+abbrev pub PassedTo : List ℕ → List ℕ → Result ℕ FaultyLine → List ℕ → Type 0
+PassedTo text lent (Ok size) after = SheetPassed text lent size after
+PassedTo text lent (Err fault) after = FirstAtFault text fault.number
 
 -- ## What is known where a line begins
 -- so many groups and rules are named by the lines before it, and their records, of so many bytes, were put
@@ -90,7 +89,7 @@ module _ {text lent : List ℕ} {at groups rules size : ℕ} {sheet : List ℕ} 
       lines_counted state.before ∙ rw (← state.groups_are, ← state.rules_are) refl in
       rw (add-one, ← number) (first_here to (omega (arith, length-drop at text)))
 
-  pub wrong_line : at < length text → found_in rest ≡ Wrong → FirstAtFault text (groups + rules + 1)
+  pub wrong_line : at < length text → found_in rest ≡ None → FirstAtFault text (groups + rules + 1)
   unfolding read_line
   wrong_line inside-text is = at_this (at_nothing reads of_form state.passed (ap (told rest) is)) inside-text
 
@@ -116,7 +115,7 @@ module _ {text lent : List ℕ} {at groups rules size : ℕ} {sheet : List ℕ} 
         }
 
   -- ## A group's line
-  module _ (gate taken-bytes : ℕ) (is : found_in rest ≡ Group gate taken-bytes) where
+  module _ (gate taken-bytes : ℕ) (is : found_in rest ≡ Some (Group gate taken-bytes)) where
     is_read : read_line rest ≡ got (group (gate_of gate)) (drop taken-bytes rest)
     unfolding read_line
     is_read = ap (told rest) is
@@ -124,7 +123,7 @@ module _ {text lent : List ℕ} {at groups rules size : ℕ} {sheet : List ℕ} 
     judged : taken state.before (group (gate_of gate)) ≡ not ((eqb groups 0 && eqb gate 1) || leb 16 groups)
     judged =
         group_taken state.before (gate_of gate)
-        ∙ (rw (← state.groups_are) (ap not (misplaced_is groups gate (found_here rest (Group gate taken-bytes) is).gate_low)))
+        ∙ (rw (← state.groups_are) (ap not (misplaced_is groups gate (found_here rest (Some (Group gate taken-bytes)) is).gate_low)))
 
     pub group_fault : at < length text → (eqb groups 0 && eqb gate 1) || leb 16 groups ≡ true → FirstAtFault text (groups + rules + 1)
     group_fault inside-text fault =
@@ -135,7 +134,7 @@ module _ {text lent : List ℕ} {at groups rules size : ℕ} {sheet : List ℕ} 
         → State text lent (at + taken-bytes) (groups + 1) rules (size + length (record_of 1 (gate_body (gate_of gate)))) later
     unfolding record_bytes
     after_group placed put =
-        let low = (found_here rest (Group gate taken-bytes) is).gate_low in
+        let low = (found_here rest (Some (Group gate taken-bytes)) is).gate_low in
         let few = few_groups groups (gate_body (gate_of gate)) (misplaced_is groups gate low ∙ placed) in
         next (group (gate_of gate)) taken-bytes (groups + 1) rules is_read (judged ∙ rw placed refl) put
         (omega (arith, groups_more state.before (gate_of gate), state.groups_are))
@@ -147,17 +146,17 @@ module _ {text lent : List ℕ} {at groups rules size : ℕ} {sheet : List ℕ} 
     -- it takes some bytes of the text
     pub group_inside : at < length text → (at < at + taken-bytes) × (at + taken-bytes ≤ length text)
     group_inside inside-text =
-        let line = (found_here rest (Group gate taken-bytes) is).line in
+        let line = (found_here rest (Some (Group gate taken-bytes)) is).line in
         let long = length-append (print (group (gate_of gate))) (10 ∷ []) in
         (omega (arith, line.size_is), omega (arith, inside line, length-drop at text))
 
   -- ## A rule's line
-  module _ (line : RuleLine) (is : found_in rest ≡ RuleFound line) where
+  module _ (line : RuleLine) (is : found_in rest ≡ Some (RuleFound line)) where
     abbrev one : Rule
     one = rule_of rest line
 
     pub rule_line : RuleHere rest line
-    rule_line = found_here rest (RuleFound line) is
+    rule_line = found_here rest (Some (RuleFound line)) is
 
     rule_read : read_line rest ≡ got (rule one) (drop line.taken rest)
     unfolding read_line
@@ -218,14 +217,14 @@ module _ {text lent after : List ℕ} {size : ℕ} (sheet : List ℕ) (passed : 
   short_given less = Makes.too_short passed.lines passed.whole (rw passed.size_is at less)
 
   -- the second pass is over the same lines
-  pub sheet_given : {later : List ℕ} → size ≤ length sheet → (again : Pass) → PassedTo text sheet again later
+  pub sheet_given : {later : List ℕ} → size ≤ length sheet → (again : Result ℕ FaultyLine) → PassedTo text sheet again later
       → MakesTo text sheet 0 size later
-  sheet_given fits (Sheet other) second =
+  sheet_given fits (Ok other) second =
       let same = same_lines reads of_form second.whole passed.whole in
       let wrote = rw same at second.wrote in
       let stands = wrote.stand (rw passed.size_is at fits) in
       rw (stands, passed.size_is) (Makes.made passed.lines passed.whole (rw passed.size_is at fits))
-  sheet_given fits (Fault number) second = absurd (not_both reads of_form second passed.whole)
+  sheet_given fits (Err fault) second = absurd (not_both reads of_form second passed.whole)
 
 -- bytes that were lent and are none
 pub none_lent : (none sheet : List ℕ) → length none ≡ 0 → none ++ sheet ≡ sheet

@@ -10,11 +10,12 @@ ghost use Rattle.paper.specs.Groups.{gate_of};
 ghost use Rattle.lines.specs.Reading.{rule_of};
 ghost use Rattle.lines.specs.ReadingLaws.{RuleHere};
 ghost use Rattle.answers.specs.Answers.{number_of_made, value_of_made};
+ghost use Rattle.answers.specs.declared.MakingRefusal.TheVariants.{Line};
 ghost use Rattle.imports.specs.Makes.{MakesTo};
 ghost use Rattle.imports.specs.Passing.{PassedTo};
 
-use answers::Made;
-use lines::{Found, RuleLine, line};
+use answers::MakingRefusal;
+use lines::{LineRead, RuleLine, line};
 use places::put;
 use sheets::{misplaced_group, misplaced_rule};
 
@@ -78,18 +79,23 @@ fn put_end(sheet: &mut [u8], at: usize) -> usize
     at + 4
 }
 
-// What going through the lines finds.
-#[derive(Drop)]
-enum Passed {
-    // All lines are taken, and their sheet has so many bytes.
-    Sheet(usize),
-    // The number of the first line that is not.
-    Fault(usize),
+// The number of the first line that is not of the form or whose record is faulty.
+#[derive(Clone, Copy)]
+struct FaultyLine {
+    number: usize,
 }
 
-// One way through the lines, each of which is judged and its record put behind those before it, if it fits. Every line that was passed
-// is a group's or a rule's, so their counts give the number of the next.
-fn pass(text: &[u8], sheet: &mut [u8]) -> Passed
+impl From<FaultyLine> for MakingRefusal {
+    ghost from_gives = { λ fault refusal. refusal ≡ Line fault.number };
+
+    fn from(fault: FaultyLine) -> MakingRefusal {
+        MakingRefusal::Line(fault.number)
+    }
+}
+
+// One way through the lines, each of which is judged and its record put behind those before it, if it fits: how many bytes their sheet
+// has. Every line that was passed is a group's or a rule's, so their counts give the number of the next.
+fn pass(text: &[u8], sheet: &mut [u8]) -> Result<usize, FaultyLine>
     ensures { PassedTo text.now sheet.old result sheet.new }
 {
     let mut at = 0;
@@ -98,43 +104,43 @@ fn pass(text: &[u8], sheet: &mut [u8]) -> Passed
     let mut size = 0;
     while at < text.len() {
         let rest = &text[at..];
-        let number = groups + rules + 1;
-        match line(rest) {
-            Found::Group { gate, taken } => {
+        let fault = FaultyLine {
+            number: groups + rules + 1,
+        };
+        let Some(read) = line(rest) else {
+            return Err(fault);
+        };
+        match read {
+            LineRead::Group { gate, taken } => {
                 if misplaced_group(groups, gate) {
-                    return Passed::Fault(number);
+                    return Err(fault);
                 }
                 size = put_group(sheet, size, gate);
                 groups += 1;
                 at += taken;
             }
-            Found::Rule(rule) => {
+            LineRead::Rule(rule) => {
                 if misplaced_rule(groups, rules) | faulty_body(rest, rule) {
-                    return Passed::Fault(number);
+                    return Err(fault);
                 }
                 size = put_rule(sheet, size, rest, rule);
                 rules += 1;
                 at += rule.taken;
             }
-            Found::Wrong => return Passed::Fault(number),
         }
     }
-    Passed::Sheet(put_end(sheet, size))
+    Ok(put_end(sheet, size))
 }
 
-// Makes the sheet that the lines of a text name. They are passed twice: first no byte is lent, so that a text which is refused changes
-// none and the length is known.
-pub fn make(text: &[u8], sheet: &mut [u8]) -> Made
+// Makes the sheet that the lines of a text name, and says how long it is. They are passed twice: first no byte is lent, so that a text
+// which is refused changes none and the length is known.
+pub fn make(text: &[u8], sheet: &mut [u8]) -> Result<usize, MakingRefusal>
     ensures { MakesTo text.now sheet.old (number_of_made result) (value_of_made result) sheet.new }
 {
-    match pass(text, &mut sheet[..0]) {
-        Passed::Fault(line) => Made::Line(line),
-        Passed::Sheet(size) => {
-            if sheet.len() < size {
-                return Made::Short;
-            }
-            pass(text, sheet);
-            Made::Written(size)
-        }
+    let size = pass(text, &mut sheet[..0])?;
+    if sheet.len() < size {
+        return Err(MakingRefusal::Short);
     }
+    pass(text, sheet)?;
+    Ok(size)
 }

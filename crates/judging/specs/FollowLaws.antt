@@ -1,15 +1,18 @@
 -- Following an ending's letters through a forest, whose nodes are all inside the table.
-use Rattle.std.specs.Prelude.{ℕ, zero, suc, ◌+◌, ◌*◌, ◌-◌, ◌<◌, ◌≤◌, ◌≡◌, refl, List, eqb, length, take, drop}
-use Rattle.std.proofs.Common.{sym, ap, ◌∙◌, add-one, arith, take-append-drop, eqb-true}
+use Rattle.std.specs.Prelude.{ℕ, suc, ◌+◌, ◌*◌, ◌-◌, ◌<◌, ◌≤◌, ◌≡◌, refl, Option as Answer, Some, None, List, eqb, length, take, drop}
+use Rattle.std.specs.Bool.{then_some}
+use Rattle.std.proofs.Common.{sym, ap, ◌∙◌, arith, take-append-drop, eqb-true, ne_eqb}
 use Rattle.std.proofs.Math.Option.{Option, none, some}
+use Rattle.std.proofs.lemmas.Bool.{eqb-false}
 use Rattle.paper.specs.TestLaws.{by_test}
-use Rattle.paths.specs.Children.{first_child, child_count, sought, child, nodes_in}
+use Rattle.paths.specs.Children.{letter, first_child, child_count, named, sought, child, nodes_in}
+use Rattle.paths.specs.ChildLaws.{sought_here, sought-past}
 use Rattle.walks.specs.Walk.{reached}
 use Rattle.walks.specs.DeepestLaws.{reached-nowhere}
 use Rattle.forests.specs.Forest.{total, Forest}
 use Rattle.forests.specs.ForestPaths.{reached_in}
-use Rattle.forests.specs.TotalLaws.{total_next, total_inside}
-use Rattle.judging.specs.Notes.{counted, Fits, Rooted}
+use Rattle.forests.specs.TotalLaws.{behind_roots, total_next, total_inside}
+use Rattle.judging.specs.Notes.{handed, Fits, Rooted}
 
 -- where a path has led so far
 pub record At (table : List ℕ) (at size : ℕ) : Type 0 where
@@ -17,6 +20,7 @@ pub record At (table : List ℕ) (at size : ℕ) : Type 0 where
   pub here : 4 * at + 4 ≤ length table
   pub children_in : 4 * (first_child table at + child_count table at) ≤ length table
   pub few : first_child table at + child_count table at ≤ size
+  pub no_root : 0 < child_count table at → 0 < first_child table at
 
 module _ {table : List ℕ} {root size : ℕ} (rooted : Rooted table root size) (tail : List ℕ) (at : ℕ)
     (there : reached (nodes_in table) root tail ≡ some at) where
@@ -39,6 +43,15 @@ module _ {table : List ℕ} {root size : ℕ} (rooted : Rooted table root size) 
       let is-first : first_child table at ≡ total table rooted.roots at = first ∙ rw p in
       omega (arith, total_next table rooted.roots at))
 
+  children_behind : 0 < child_count table at → 0 < first_child table at
+  children_behind some-child =
+      let first = (forest.row at at_in).first_is in
+      let root_in = rooted.root_in in
+      by_test (eqb (child_count table at) 0) (λ p. let no_child = eqb-true (child_count table at) 0 p in omega arith)
+      (λ p.
+      let is-first : first_child table at ≡ total table rooted.roots at = first ∙ rw p in
+      omega (arith, behind_roots table rooted.roots at))
+
   pub at_node : At table at size
   at_node =
       record {
@@ -46,6 +59,7 @@ module _ {table : List ℕ} {root size : ℕ} (rooted : Rooted table root size) 
         here = omega (arith, at_in, forest.inside);
         children_in = omega (arith, children_end, forest.inside);
         few = omega (arith, children_end, rooted.fits.few);
+        no_root = children_behind;
       }
 
 -- one of the roots
@@ -57,45 +71,38 @@ rooted_in fits h same =
       root_in = h;
     }
 
--- more places serve too
-pub wider : {table : List ℕ} {root size more : ℕ} → Rooted table root size → size ≤ more → Rooted table root more
-wider rooted h =
-    let fits = rooted.fits in
-    record {
-      roots = rooted.roots;
-      fits = record { nodes = fits.nodes; forest = fits.forest; few = omega (arith, fits.few) };
-      root_in = rooted.root_in;
-    }
+-- the first child whose letter is not smaller is the one sought, or there is none
+pub among_here : (count : ℕ) (table : List ℕ) (one at : ℕ) → 0 < count → 0 < at → one ≤ letter table at
+    → then_some (eqb one (letter table at)) at ≡ named (sought count table one at)
+among_here count table one at more no_root up-to =
+    by_test (eqb one (letter table at))
+    (λ p.
+    let here = sought_here count table one at more (eqb-true one (letter table at) p) in
+    rw (p, here, ne_eqb at 0 (omega arith)))
+    (λ p.
+    let apart = eqb-false one (letter table at) p in
+    rw (p, sought-past count table one at (omega arith)))
 
 -- what is found among the children is the child
-pub child_among : (table : List ℕ) (at letter first end found : ℕ) → first ≡ first_child table at → end ≡ first + child_count table at
-    → found ≡ sought (end - first) table letter first → found ≡ child table at letter
+pub child_among : (table : List ℕ) (at letter first end : ℕ) {node : Answer ℕ} → first ≡ first_child table at
+    → end ≡ first + child_count table at → node ≡ named (sought (end - first) table letter first) → node ≡ named (child table at letter)
 unfolding child
-child_among table at letter first end found f e is =
+child_among table at letter first end f e is =
     let long : end - first ≡ child_count table at = omega arith in
     is ∙ rw (long, f)
 
--- the answers, counted from 1
+-- where some letters lead nowhere, the whole ending does not either
 pub leads-nowhere : (table : List ℕ) (root : ℕ) (ending : List ℕ) (left : ℕ) → reached (nodes_in table) root (drop left ending) ≡ none
-    → 0 ≡ counted (reached (nodes_in table) root ending)
-unfolding counted
+    → None ≡ handed (reached (nodes_in table) root ending)
 leads-nowhere table root ending left e =
     let whole = reached-nowhere (nodes_in table) root (take left ending) (drop left ending) e in
-    sym (ap counted (rw (take-append-drop left ending) at whole))
+    sym (ap handed (rw (take-append-drop left ending) at whole))
 
-pub leads_here : (table : List ℕ) (root : ℕ) (ending : List ℕ) (at left : ℕ) → left ≤ 0
-    → reached (nodes_in table) root (drop left ending) ≡ some at → at + 1 ≡ counted (reached (nodes_in table) root ending)
-unfolding counted
-leads_here table root ending at zero h e = rw (e, add-one)
-leads_here table root ending at (suc left) h e = absurd (omega arith)
-
--- and back
-pub none_there : (found : Option ℕ) → 0 ≡ counted found → found ≡ none
-unfolding counted
+-- what is handed back tells where the letters lead
+pub none_there : (found : Option ℕ) → None ≡ handed found → found ≡ none
 none_there none e = refl
-none_there (some at) e = absurd (omega (arith, e))
+none_there (some at) e = absurd (cc)
 
-pub node_there : (found : Option ℕ) (node : ℕ) → node ≡ counted found → (node ≡ 0 → ⊥) → found ≡ some (node - 1)
-unfolding counted
-node_there none node e some-node = absurd (some-node e)
-node_there (some at) node e some-node = let back : at ≡ node - 1 = omega (arith, e) in ap some back
+pub node_there : (found : Option ℕ) (node : ℕ) → Some node ≡ handed found → found ≡ some node
+node_there none node e = absurd (cc)
+node_there (some at) node e = let same : at ≡ node = cc in ap some same

@@ -1,7 +1,9 @@
 -- A table is the one that a sheet makes exactly if it is a forest laid out by levels through which the rules' endings lead as they must.
-use Rattle.std.specs.Prelude.{ℕ, suc, ◌+◌, ◌*◌, ◌≤◌, ◌<◌, ◌≡◌, true, false, ◌↔◌, List, [], ◌∷◌, leb, length, take}
+use Rattle.std.specs.Prelude.{ℕ, suc, ◌+◌, ◌*◌, ◌≤◌, ◌<◌, ◌≡◌, true, false, ◌↔◌, Ok, Err, List, [], ◌∷◌, leb, length, take}
 use Rattle.std.proofs.Common.{sym, ◌∙◌, arith, lit<, length-take, length-take-le, leb-true, leb-false}
 use Rattle.std.proofs.Math.Path.{ap}
+use Rattle.answers.specs.declared.FaultySheet.{FaultySheet}
+use Rattle.answers.specs.declared.RunRefusal.TheVariants.{Sheet as Unread, Table}
 use Rattle.paper.specs.Groups.{Group}
 use Rattle.paper.specs.GroupsLaws.{same_equal, same_itself}
 use Rattle.paper.specs.Nodes.{node_count}
@@ -25,7 +27,6 @@ use Rattle.levels.specs.CountLaws.{nodes_length, table-length}
 use Rattle.levels.specs.LevelForest.{layout_forest}
 use Rattle.levels.specs.LevelFaithful.{layout_faithful}
 use Rattle.judging.specs.Judgements.{right_table, judgement_of, judgement}
-use Rattle.judging.specs.declared.Judged.TheVariants.{Right, Refused, Other}
 use Rattle.judging.specs.Led.{Led}
 use Rattle.judging.specs.LedLaws.{led_faithful}
 use Rattle.judging.specs.FaithfulLed.{own, faithful_led}
@@ -113,9 +114,9 @@ passes_exactly groups fit table = (
 -- ## What is said of a sheet and a table
 
 module _ (sheet table : List ℕ) where
-  pub judged_refused : (place : ℕ) → read_sheet sheet ≡ refused place → Refused place ≡ judgement sheet table
+  pub judged_refused : (fault : FaultySheet) → read_sheet sheet ≡ refused fault.place → Err (Unread fault) ≡ judgement sheet table
   unfolding judgement judgement_of
-  judged_refused place is = rw is
+  judged_refused fault is = rw is
 
   module _ (is : Accepted sheet) where
     abbrev groups : List Group
@@ -124,22 +125,22 @@ module _ (sheet table : List ℕ) where
     fits : bounded groups ≡ true
     fits = (write_back sheet groups is).1
 
-    not_right : right_table groups table ≡ false → Other ≡ judgement sheet table
+    not_right : right_table groups table ≡ false → Err Table ≡ judgement sheet table
     unfolding judgement judgement_of
     not_right e = rw (is, e)
 
     -- no forest, as many roots as there are groups
-    pub judged_shapeless : NoForest table (length groups) → Other ≡ judgement sheet table
+    pub judged_shapeless : NoForest table (length groups) → Err Table ≡ judgement sheet table
     judged_shapeless no-forest =
         by_test (right_table groups table)
         (λ right. absurd (no-forest (node_count groups) (at_most_1552 groups fits) (right_forest groups fits table right))) not_right
 
     module _ (n : ℕ) (forest : Forest table (length groups) n) where
-      pub judged-right : Led (take (4 * n) table) (length groups) n (ends 0 groups) → Right n ≡ judgement sheet table
+      pub judged-right : Led (take (4 * n) table) (length groups) n (ends 0 groups) → Ok n ≡ judgement sheet table
       unfolding judgement judgement_of
       judged-right led = rw (is, is_right groups fits table n forest led, ← right_count groups fits table n forest led)
 
-      pub judged_other : (Led (take (4 * n) table) (length groups) n (ends 0 groups) → ⊥) → Other ≡ judgement sheet table
+      pub judged_other : (Led (take (4 * n) table) (length groups) n (ends 0 groups) → ⊥) → Err Table ≡ judgement sheet table
       judged_other not-led =
           by_test (right_table groups table)
           (λ right.

@@ -12,4 +12,3 @@ pub mod JudgementLaws
 pub mod Notes
 pub mod FollowLaws
 pub mod NoteLaws
-pub mod HeldLaws

@@ -1,5 +1,5 @@
 -- Noting one rule after another, in sheet order.
-use Rattle.std.specs.Prelude.{ℕ, suc, ◌+◌, ◌-◌, ◌<◌, ◌≡◌, refl, true, false, List, [], ◌∷◌, ◌++◌, map, eqb, length, take, drop, get_or, set}
+use Rattle.std.specs.Prelude.{ℕ, suc, ◌+◌, ◌-◌, ◌<◌, ◌≡◌, refl, true, false, Some, List, [], ◌∷◌, ◌++◌, map, eqb, length, take, drop, get_or, set}
 use Rattle.std.proofs.Common.{sym, ap, subst, ◌∙◌, true≢false, append_assoc, append-nil, add-one, arith, lit<, length-append, length-set, get_or-set_same, get_or-set_other, eqb-true, eq-eqb, ne_eqb}
 use Rattle.std.proofs.Math.Option.{Option, none, some}
 use Rattle.std.proofs.lemmas.Bool.{eqb-false}
@@ -83,12 +83,6 @@ module _ (found : Option ℕ) (rule : ℕ) (notes : List ℕ) where
   unfolding exists noted
   note_later at e taken = (rw e, rw e (rw (ne_eqb (get_or notes at 0) 0 taken)))
 
-pub noted_length : (found : Option ℕ) (rule : ℕ) (notes : List ℕ) → length (noted found rule notes) ≡ length notes
-unfolding noted
-noted_length none rule notes = refl
-noted_length (some at) rule notes =
-    by_test (eqb (get_or notes at 0) 0) (λ p. rw p (length-set notes at rule)) (λ p. rw p)
-
 -- ## Going through a sheet
 
 -- the node where each rule ends that is left: those of the group at hand, then those of the groups after it
@@ -156,7 +150,8 @@ module _ {sheet table : List ℕ} {at root groups rules : ℕ} {notes : List ℕ
         so_noted = state.so_noted;
       }
 
-  pub noting_end : passed_at sheet at ≡ EndRecord → Paths table (ends 0 (groups_of sheet)) × Noted table (ends 0 (groups_of sheet)) notes
+  pub noting_end : passed_at sheet at ≡ Some EndRecord
+      → Paths table (ends 0 (groups_of sheet)) × Noted table (ends 0 (groups_of sheet)) notes
   noting_end here =
       let over = end_next state.holds here in
       let all : state.so_far ≡ ends 0 (groups_of sheet) = sym (append-nil state.so_far)

@@ -3,108 +3,88 @@
 ghost use Rattle.std.specs.Prelude.{◌≡◌, ◌*◌, ◌-◌, ◌<◌, ◌≤◌, length};
 ghost use Rattle.forests.specs.Forest.{Forest};
 ghost use Rattle.forests.specs.Shapes.{Told};
-ghost use Rattle.paths.specs.Children.{sought, nodes_in};
-ghost use Rattle.sheets.specs.Accepted.{groups_of, Accepted};
+ghost use Rattle.paths.specs.Children.{named, sought, nodes_in};
+ghost use Rattle.sheets.specs.Accepted.{groups_of};
 ghost use Rattle.walks.specs.Ends.{ends};
 ghost use Rattle.walks.specs.Faithful.{exists};
 ghost use Rattle.walks.specs.Walk.{reached};
 ghost use Rattle.judging.specs.Led.{Led};
-ghost use Rattle.judging.specs.Notes.{counted, noted, Fits, Rooted, Blank, NotedAs, Held};
+ghost use Rattle.judging.specs.Notes.{handed, noted, Fits, Rooted, Blank, NotedAs, Held};
 
-use numbers::wide;
 use passing::pass;
 use records::Record;
+use sheets::AcceptedSheet;
 
-// The node of this letter among those from `first` up to `end`, 0 for none. They are known to be inside the table.
-fn among(table: &[u16], first: usize, end: usize, letter: usize) -> usize
-    requires { (first ≤ end) × ((4 * end ≤ length table.now) × (end ≤ 1552)) }
-    ensures { result ≡ sought (end - first) table.now letter first }
+// The node of this letter among those from `first` up to `end`, if there is one. They are known to be inside the table, and no root.
+fn among(table: &[u16], first: usize, end: usize, letter: usize) -> Option<usize>
+    requires { (first ≤ end) × ((4 * end ≤ length table.now) × ((end ≤ 1552) × (first < end → 0 < first))) }
+    ensures { result ≡ named (sought (end - first) table.now letter first) }
 {
-    let mut at = first;
-    while at < end {
-        let here = table[4 * at] as usize;
+    for at in first..end {
+        let here = usize::from(table[4 * at]);
         if letter <= here {
-            if letter == here {
-                return at;
-            }
-            return 0;
+            return (letter == here).then_some(at);
         }
-        at += 1;
     }
-    0
+    None
 }
 
-// The node to which an ending's letters lead from a root of a forest, counted from 1; 0 for none.
-fn follow(table: &[u16], root: usize, ending: &[u8]) -> usize
+// The node to which an ending's letters lead from a root of a forest, if they lead to one.
+fn follow(table: &[u16], root: usize, ending: &[u8]) -> Option<usize>
     requires { Rooted table.now root 1552 }
-    ensures { result ≡ counted (reached (nodes_in table.now) root ending.now) }
+    ensures { result ≡ handed (reached (nodes_in table.now) root ending.now) }
 {
     let mut at = root;
-    let mut left = ending.len();
-    while 0 < left {
-        left -= 1;
-        let first = table[4 * at + 1] as usize;
-        let end = first + table[4 * at + 2] as usize;
-        at = among(table, first, end, wide(ending[left]));
-        if at == 0 {
-            return 0;
-        }
+    for letter in ending.iter().rev() {
+        let first = usize::from(table[4 * at + 1]);
+        let end = first + usize::from(table[4 * at + 2]);
+        at = among(table, first, end, usize::from(*letter))?;
     }
-    at + 1
+    Some(at)
 }
 
 // Notes at the node where an ending leads the rule that has it, if none is noted there. Whether it leads anywhere.
-fn note(table: &[u16], root: usize, ending: &[u8], rule: usize, notes: &mut [u8]) -> bool
-    requires { Rooted table.now root (length notes.old) × ((length notes.old ≤ 1552) × (rule < 256)) }
+fn note(table: &[u16], root: usize, ending: &[u8], rule: u8, notes: &mut [u8]) -> bool
+    requires { Rooted table.now root (length notes.old) × (length notes.old ≤ 1552) }
     ensures value { result ≡ exists (reached (nodes_in table.now) root ending.now) }
     ensures notes_after { notes.new ≡ noted (reached (nodes_in table.now) root ending.now) rule
         notes.old }
 {
-    let node = follow(table, root, ending);
-    if node == 0 {
+    let Some(at) = follow(table, root, ending) else {
         return false;
-    }
-    let at = node - 1;
+    };
     if notes[at] == 0 {
-        notes[at] = rule as u8;
+        notes[at] = rule;
     }
     true
 }
 
 // Notes all rules of a sheet, in its order. Whether each ending leads somewhere.
-fn note_all(sheet: &[u8], table: &[u16], notes: &mut [u8]) -> bool
-    requires { Accepted sheet.now × (Fits table.now (length (groups_of sheet.now)) (length notes.old)
-        × ((length notes.old ≤ 1552) × Blank notes.old)) }
-    ensures { NotedAs table.now (ends 0 (groups_of sheet.now)) result notes.new }
+fn note_all(sheet: AcceptedSheet<'_>, table: &[u16], notes: &mut [u8]) -> bool
+    requires { Fits table.now (length (groups_of sheet.bytes.now)) (length notes.old)
+        × ((length notes.old ≤ 1552) × Blank notes.old) }
+    ensures { NotedAs table.now (ends 0 (groups_of sheet.entry.bytes.now)) result notes.new }
 {
+    let bytes = sheet.bytes;
     let mut at = 0;
     let mut root = 0;
     let mut groups = 0;
     let mut rules = 0;
-    while at < sheet.len() {
-        let found = pass(sheet, at);
-        match found {
+    while let Some(record) = pass(bytes, at) {
+        match record {
             Record::Group { gate: _, next } => {
                 root = groups;
                 groups += 1;
                 at = next;
             }
-            Record::Rule {
-                condition: _,
-                action: _,
-                opens: _,
-                start,
-                middle,
-                next,
-            } => {
+            Record::Rule(rule) => {
                 rules += 1;
-                if !note(table, root, &sheet[start..middle], rules, notes) {
+                if !note(table, root, &bytes[rule.start..rule.middle], rules, notes) {
                     return false;
                 }
-                at = next;
+                at = rule.next;
             }
             Record::End => return true,
-            Record::Faulty => return false,
         }
     }
     false
@@ -115,29 +95,27 @@ fn held_as_noted(table: &[u16], roots: usize, nodes: usize, notes: &[u8]) -> boo
     requires { (nodes ≤ length notes.now) × ((nodes ≤ 1552) × (4 * nodes ≤ length table.now)) }
     ensures { Told (Held table.now roots nodes notes.now) result }
 {
-    let mut i = 0;
-    while i < nodes {
-        let rule = wide(notes[i]);
-        if rule != table[4 * i + 3] as usize {
+    for i in 0..nodes {
+        let rule = u16::from(notes[i]);
+        if rule != table[4 * i + 3] {
             return false;
         }
         let count = table[4 * i + 2];
         if (rule == 0) & (roots <= i) & (count == 0) {
             return false;
         }
-        i += 1;
     }
     true
 }
 
 // Whether the rules' endings lead through this forest as they must.
-pub(crate) fn led(sheet: &[u8], table: &[u16], roots: usize, nodes: usize) -> bool
-    requires { Accepted sheet.now × ((roots ≡ length (groups_of sheet.now)) × (Forest table.now roots nodes × (nodes ≤ 1552))) }
-    ensures { Told (Led table.now roots nodes (ends 0 (groups_of sheet.now))) result }
+pub(crate) fn led(sheet: AcceptedSheet<'_>, table: &[u16], roots: usize, nodes: usize) -> bool
+    requires { (roots ≡ length (groups_of sheet.bytes.now)) × (Forest table.now roots nodes × (nodes ≤ 1552)) }
+    ensures { Told (Led table.now roots nodes (ends 0 (groups_of sheet.entry.bytes.now))) result }
 {
     let mut notes = [0u8; 1552];
-    if !note_all(sheet, table, &mut notes[..]) {
+    if !note_all(sheet, table, &mut notes) {
         return false;
     }
-    held_as_noted(table, roots, nodes, &notes[..])
+    held_as_noted(table, roots, nodes, &notes)
 }

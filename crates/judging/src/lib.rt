@@ -7,40 +7,20 @@ ghost use Rattle.judging.specs.Judgements.{judgement};
 
 mod endings;
 
+use answers::RunRefusal;
 use endings::led;
-use forests::{Shape, shape_of};
-use sheets::{Sheet, read};
+use forests::shape_of;
+use sheets::{AcceptedSheet, read};
 
-// What is said of a sheet and a table, before a word is looked at.
-#[derive(Drop)]
-pub enum Judged {
-    // The table is the one that the sheet makes: its nodes.
-    Right(usize),
-    // 3: the place of the sheet's first faulty record.
-    Refused(usize),
-    // 7: the table is another.
-    Other,
-}
-
-// Judges a sheet, and a table by it.
-pub fn judge(sheet: &[u8], table: &[u16]) -> Judged
+// Judges a sheet, and a table by it, before a word is looked at: how many nodes the table has, if it is the one that the sheet makes.
+pub fn judge(sheet: &[u8], table: &[u16]) -> Result<usize, RunRefusal>
     ensures { result ≡ judgement sheet.now table.now }
 {
-    let found = read(sheet);
-    match found {
-        Sheet::Refused(place) => Judged::Refused(place),
-        Sheet::Accepted(groups) => {
-            let seen = shape_of(table, groups);
-            match seen {
-                Shape::Other => Judged::Other,
-                Shape::Forest(nodes) => {
-                    let end = 4 * nodes;
-                    if led(sheet, &table[..end], groups, nodes) {
-                        return Judged::Right(nodes);
-                    }
-                    Judged::Other
-                }
-            }
-        }
+    let groups = read(sheet)?;
+    let nodes = shape_of(table, groups).ok_or(RunRefusal::Table)?;
+    let end = 4 * nodes;
+    if !led(AcceptedSheet { bytes: sheet }, &table[..end], groups, nodes) {
+        return Err(RunRefusal::Table);
     }
+    Ok(nodes)
 }

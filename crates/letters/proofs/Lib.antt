@@ -2,3 +2,4 @@
 pub mod Classes
 pub mod Steps
 pub mod Writes
+pub mod Endings

@@ -1,5 +1,5 @@
 -- One letter more in a forward scan.
-use Prim.Native.Nat.{ℕ, ◌+◌, ◌%◌, ◌^◌, ◌<◌, ◌≤◌}
+use Prim.Native.Nat.{ℕ, ◌+◌, ◌%◌, ◌<◌, ◌≤◌}
 use native.Mathlib.Numerals.{add-one}
 use native.Mathlib.Omega.{arith}
 use mathlib.Core.Path.{◌≡◌, ap, sym, subst, ◌∙◌}
@@ -13,7 +13,7 @@ use Rattle.paper.specs.Letters.{vowel_after}
 use Rattle.paper.specs.States.{state as state_of, even, changed, state_at, state_at_earlier, state_grows}
 use Rattle.paper.specs.Noted.{class_before, next_state, next_is, ends_after, one_most}
 use Rattle.letters.proofs.Classes.{odd}
-use Rattle.letters.specs.Scan.{class_table, Scanned}
+use Rattle.letters.specs.Scan.{Scanned}
 use Rattle.letters.specs.declared.Passed.{Passed}
 
 -- a letter adds one at most
@@ -63,37 +63,28 @@ module _ (part : List ℕ) (s : Passed) (h : Scanned part s) (l : ℕ) where
 -- ## The loop of a scan
 
 -- at the loop's head: so many letters were passed
-abbrev pub Passing : List ℕ → List (List ℕ) → Passed → ℕ → Type 0
-Passing part table s i = (i ≤ length part) × (table ≡ class_table) × (s.state ≤ i) × Scanned (take i part) s
+abbrev pub Passing : List ℕ → Passed → ℕ → Type 0
+Passing part s i = (i ≤ length part) × (s.state ≤ i) × Scanned (take i part) s
 
--- what one step asks, and what it gives
-pub step-asks :
-    (part : List ℕ) (table : List (List ℕ)) (s : Passed) (i : ℕ)
-    → Passing part table s i
-    → length part < 2 ^ 63
-    → (table ≡ class_table) × (s.state < 2 ^ 63)
-step-asks part table s i passing short = (passing.1, omega arith)
-
+-- what one step gives
 pub step_gives :
-    (part : List ℕ) (table : List (List ℕ)) (s after : Passed) (i : ℕ)
+    (part : List ℕ) (s after : Passed) (i : ℕ)
     → i < length part
-    → Passing part table s i
+    → Passing part s i
     → after.state ≤ s.state + 1
     → ((passed : List ℕ) → Scanned passed s → Scanned (passed ++ get_or part i 0 ∷ []) after)
-    → Passing part table after (i + 1)
-step_gives part table s after i inside passing more scanned =
+    → Passing part after (i + 1)
+step_gives part s after i inside passing more scanned =
     let next : take (i + 1) part ≡ take i part ++ get_or part i 0 ∷ [] = rw add-one (take-suc part i 0 inside) in
-    (omega arith, passing.1, omega arith, rw next (scanned (take i part) passing.3))
+    (omega arith, omega arith, rw next (scanned (take i part) passing.2))
 
 -- the whole part was passed
-pub all_passed :
-    (part : List ℕ) (table : List (List ℕ)) (s : Passed) (i : ℕ) → length part ≤ i → Passing part table s i → Scanned part s
-all_passed part table s i end passing =
-    subst (λ (passed : List ℕ). Scanned passed s) (take_all i part end) passing.3
+pub all_passed : (part : List ℕ) (s : Passed) (i : ℕ) → length part ≤ i → Passing part s i → Scanned part s
+all_passed part s i end passing =
+    subst (λ (passed : List ℕ). Scanned passed s) (take_all i part end) passing.2
 
 -- what is known of the letters passed is known of the whole part
-pub state_passed :
-    (part : List ℕ) (table : List (List ℕ)) (s : Passed) (i : ℕ) → Passing part table s i → s.state ≤ state_of part
-state_passed part table s i passing =
+pub state_passed : (part : List ℕ) (s : Passed) (i : ℕ) → Passing part s i → s.state ≤ state_of part
+state_passed part s i passing =
     let grows = rw take-append-drop at (state_grows (take i part) (drop i part)) in
-    omega (arith, passing.3.state, grows)
+    omega (arith, passing.2.state, grows)

@@ -2,25 +2,25 @@
 // it. Every function takes any bytes: a byte outside a to z is a consonant.
 #![tactic(auto)]
 
-ghost use Rattle.std.specs.Prelude.{◌≡◌, List, [], ◌∷◌, ◌++◌, ltb, ℕ, ◌+◌, ◌<◌, ◌≤◌, ◌^◌};
+ghost use Rattle.std.specs.Prelude.{◌≡◌, List, [], ◌∷◌, ◌++◌, ltb, ℕ, ◌+◌, ◌<◌, ◌≤◌, ◌^◌, ◌==◌, zip};
+ghost use Rattle.std.specs.List.{list_all};
 ghost use Rattle.paper.specs.Letters.{vowel_after, measure as measure_of};
 ghost use Rattle.paper.specs.Conditions.{holds as holds_of};
 ghost use Rattle.paper.specs.States.{state as state_of};
 ghost use Rattle.paper.specs.Noted.{class_before, next_state};
 ghost use Rattle.paper.specs.Groups.{ends_with};
 ghost use Rattle.paper.specs.Words.{first_other};
-ghost use Rattle.letters.specs.Scan.{class_table, Scanned};
+ghost use Rattle.letters.specs.Scan.{Scanned};
 ghost use Rattle.letters.specs.Notes.{noted, renewed};
 
-// Whether a letter is a vowel, odd for yes: first by whether the letter before it was a consonant, then by the letter, a to z. The even
-// numbers take turns, since of equal numbers side by side each would be written by itself when a word is read.
+// Whether a letter is a vowel, odd for yes: first by whether the letter before it was a consonant, then by the letter, a to z.
 const CLASS: [[u8; 26]; 2] = [
     *b"10201020102020102020102020",
     *b"10201020102020102020102010",
 ];
 
 // What a forward scan has found of the letters passed.
-#[derive(Drop)]
+#[derive(Clone, Copy)]
 struct Passed {
     // Their state, and those of one and two letters fewer: twice the measure, and 1 more where the last letter is a vowel.
     state: usize,
@@ -30,9 +30,37 @@ struct Passed {
     consonant: bool,
 }
 
+impl Passed {
+    // Before the first letter.
+    fn nothing() -> Passed
+        ensures { (result.state ≡ 0) × Scanned [] result }
+    {
+        Passed {
+            state: 0,
+            before: 0,
+            earlier: 0,
+            consonant: false,
+        }
+    }
+
+    // One letter more.
+    fn step(self, letter: u8) -> Passed
+        requires { self.state < 2 ^ 63 }
+        ensures state_bound { result.state ≤ self.state + 1 }
+        ensures by_index { (part : List ℕ) → Scanned part self → Scanned (part ++ letter ∷ []) result }
+    {
+        let state = next_state(self.consonant, self.state, letter);
+        Passed {
+            state,
+            before: self.state,
+            earlier: self.before,
+            consonant: state % 2 != 1,
+        }
+    }
+}
+
 // Both rows are read, so that the look at the table does not wait for the class of the letter before.
-fn vowel_after(table: &[[u8; 26]; 2], consonant: bool, letter: u8) -> bool
-    requires { table.now ≡ class_table }
+fn vowel_after(consonant: bool, letter: u8) -> bool
     ensures { result ≡ vowel_after (class_before consonant) letter }
 {
     if letter < 97 {
@@ -41,57 +69,27 @@ fn vowel_after(table: &[[u8; 26]; 2], consonant: bool, letter: u8) -> bool
     if 122 < letter {
         return false;
     }
-    let column = (letter - 97) as usize;
-    (table[0][column] % 2 == 1) | ((table[1][column] % 2 == 1) & consonant)
+    let column = usize::from(letter - 97);
+    (CLASS[0][column] % 2 == 1) | ((CLASS[1][column] % 2 == 1) & consonant)
 }
 
 // The state after one letter more: one more where the class is another.
-fn next_state(table: &[[u8; 26]; 2], consonant: bool, state: usize, letter: u8) -> usize
-    requires { (table.now ≡ class_table) × (state < 2 ^ 63) }
+fn next_state(consonant: bool, state: usize, letter: u8) -> usize
+    requires { state < 2 ^ 63 }
     ensures { result ≡ next_state consonant state letter }
 {
-    if vowel_after(table, consonant, letter) == (state % 2 == 1) {
+    if vowel_after(consonant, letter) == (state % 2 == 1) {
         return state;
     }
     state + 1
 }
 
-// One letter more.
-fn step(table: &[[u8; 26]; 2], s: Passed, letter: u8) -> Passed
-    requires { (table.now ≡ class_table) × (s.state < 2 ^ 63) }
-    ensures state_bound { result.state ≤ s.state + 1 }
-    ensures by_index { (part : List ℕ) → Scanned part s → Scanned (part ++ letter ∷ []) result }
-{
-    let state = next_state(table, s.consonant, s.state, letter);
-    Passed {
-        state,
-        before: s.state,
-        earlier: s.before,
-        consonant: state % 2 != 1,
-    }
-}
-
-// Before the first letter.
-fn nothing_passed() -> Passed
-    ensures { (result.state ≡ 0) × Scanned [] result }
-{
-    Passed {
-        state: 0,
-        before: 0,
-        earlier: 0,
-        consonant: false,
-    }
-}
-
 fn scan(part: &[u8]) -> Passed
     ensures { Scanned part.now result }
 {
-    let table = &CLASS;
-    let mut s = nothing_passed();
-    let mut i = 0;
-    while i < part.len() {
-        s = step(table, s, part[i]);
-        i += 1;
+    let mut s = Passed::nothing();
+    for letter in part {
+        s = s.step(*letter);
     }
     s
 }
@@ -100,15 +98,12 @@ fn scan(part: &[u8]) -> Passed
 fn above(part: &[u8], k: usize) -> bool
     ensures { result ≡ ltb k (state_of part.now) }
 {
-    let table = &CLASS;
-    let mut s = nothing_passed();
-    let mut i = 0;
-    while i < part.len() {
-        s = step(table, s, part[i]);
+    let mut s = Passed::nothing();
+    for letter in part {
+        s = s.step(*letter);
         if k < s.state {
             return true;
         }
-        i += 1;
     }
     false
 }
@@ -131,10 +126,8 @@ pub fn holds(condition: u8, part: &[u8]) -> bool
         3 => above(part, 0),
         _ => {
             // Condition 8 is asked of every word, and few end in l.
-            if condition == 8 {
-                if conditions::letter_at(part, 0) != 108 {
-                    return false;
-                }
+            if condition == 8 && conditions::letter_at(part, 0) != 108 {
+                return false;
             }
             let s = scan(part);
             conditions::judged(condition, part, s.state, s.before, s.earlier)
@@ -151,30 +144,26 @@ pub fn note(word: &[u8], states: &mut [u8]) -> usize
     if (states.len() <= word.len()) | (255 < word.len()) {
         return pieces::first_other(word);
     }
-    let table = &CLASS;
     let mut state: usize = 0;
     // The class of the letter before is kept by itself, so that no letter waits for the state's parity.
     let mut vowel = false;
     let mut consonant = false;
-    let mut i = 0;
-    while i < word.len() {
-        let letter = word[i];
+    for (i, &letter) in word.iter().enumerate() {
         if letter < 97 {
             return i;
         }
         if 122 < letter {
             return i;
         }
-        let now = vowel_after(table, consonant, letter);
+        let now = vowel_after(consonant, letter);
         if now != vowel {
             state += 1;
         }
         vowel = now;
         consonant = !now;
-        i += 1;
-        states[i] = state as u8;
+        states[i + 1] = state as u8;
     }
-    i
+    word.len()
 }
 
 // Notes the states of a word again behind a place: the letters from there on were written.
@@ -187,19 +176,23 @@ pub fn renew(word: &[u8], states: &mut [u8], from: usize)
     if states.len() <= word.len() {
         return;
     }
-    let table = &CLASS;
-    let mut state = states[from] as usize;
+    let mut state = usize::from(states[from]);
     if 255 < state + (word.len() - from) {
         return;
     }
     let mut consonant = (0 < from) & (state % 2 != 1);
-    let mut i = from;
-    while i < word.len() {
-        state = next_state(table, consonant, state, word[i]);
+    for i in from..word.len() {
+        state = next_state(consonant, state, word[i]);
         consonant = state % 2 != 1;
-        i += 1;
-        states[i] = state as u8;
+        states[i + 1] = state as u8;
     }
+}
+
+// Whether two parts have the same letters, from the first on, as far as the shorter reaches.
+fn alike(one: &[u8], other: &[u8]) -> bool
+    ensures { result ≡ list_all (λ p. p.0 == p.1) (zip one.now other.now) }
+{
+    one.iter().zip(other).all(|(letter, its)| *letter == *its)
 }
 
 // Whether the word ends with the ending.
@@ -210,14 +203,6 @@ pub fn ends_with(word: &[u8], ending: &[u8]) -> bool
     if word.len() < n {
         return false;
     }
-    let start = word.len() - n;
     // From the first letter: a caller with an index by last letter knows the last already.
-    let mut i = 0;
-    while i < n {
-        if word[start + i] != ending[i] {
-            return false;
-        }
-        i += 1;
-    }
-    true
+    alike(&word[word.len() - n..], ending)
 }

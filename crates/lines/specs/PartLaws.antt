@@ -1,24 +1,23 @@
 -- The parts of a line: each is found where it is printed, and what is found is printed there.
 use Prim.Native.Nat.{ℕ, zero, suc, ◌+◌, ◌-◌, ◌≤◌, ◌<◌}
-use Rattle.std.specs.Prelude.{◌≡◌, refl, true, false, ◌&&◌, List, [], ◌∷◌, ◌++◌, eqb, ltb, length, take, drop, get_or}
-use Rattle.std.proofs.Common.{sym, ap, subst, ◌∙◌, true≢false, append_assoc, add-one, arith, take-append-drop, length-take, drop-drop}
+use Rattle.std.specs.Prelude.{◌≡◌, refl, Bool, true, false, ◌&&◌, List, [], ◌∷◌, ◌++◌, eqb, ltb, length, take, drop, Option, Some, None}
+use Rattle.std.proofs.Common.{sym, ap, subst, ◌∙◌, true≢false, append_assoc, arith, take-append-drop, length-take, drop-drop}
 use Rattle.std.proofs.Math.Bool.{and-false}
-use Rattle.std.proofs.Math.ListN.{length-append}
-use Rattle.std.proofs.Math.Seq.{drop-cons}
+use Rattle.std.proofs.Math.ListN.{length-append, length-drop}
 use borrow.Author.Tests.{eqb-true, eq-eqb, ne_eqb, lt-ltb, ltb-true}
+use Rattle.std.specs.List.{starts_with as asks_starts}
 use Rattle.paper.specs.Letters.{letters}
 use Rattle.paper.specs.Groups.{gate_of}
 use Rattle.paper.specs.TestLaws.{by_test, and_parts}
 use Rattle.paper.specs.Words.{small, all_small, first_other}
 use Rattle.paper.specs.WordsLaws.{small_apart, first_small, first_inside, first_behind}
-use Rattle.lines.specs.Lines.{group, spellings, spelling, part, print}
-use Rattle.lines.specs.Reading.{starts_with, taken_by, spelled, spelled_in, head_in, part_in, close_in}
+use Rattle.lines.specs.Lines.{group, spellings, part, print}
+use Rattle.lines.specs.Reading.{starts_with, spelled, spelled_in, head_in, letters_in, part_in, close_in}
 use Rattle.lines.specs.declared.parts.Head.{Head}
-use Rattle.lines.specs.declared.parts.Head.TheVariants.{Group as GroupHead, Condition, Nothing as NoHead}
-use Rattle.lines.specs.declared.parts.Part.{Part}
-use Rattle.lines.specs.declared.parts.Part.TheVariants.{Letters, Nothing as NoPart}
+use Rattle.lines.specs.declared.parts.Head.TheVariants.{Group as GroupHead, Condition}
+use Rattle.lines.specs.declared.parts.Letters.{Letters}
 use Rattle.lines.specs.declared.parts.Close.{Close}
-use Rattle.lines.specs.declared.parts.Close.TheVariants.{Plain, Opens, Nothing as NoClose}
+use Rattle.lines.specs.declared.parts.Close.TheVariants.{Plain, Opens}
 
 -- ## What the bytes begin with
 -- the bytes begin with these, which are so many
@@ -40,12 +39,6 @@ module _ {front rest : List ℕ} {size : ℕ} (begins : Begins front rest size) 
             ∙ (rw (drop-drop further size rest) (sym (append_assoc front more (drop (size + further) rest)))));
       }
 
-pub starts_short : (front rest : List ℕ) → length rest < length front → starts_with front rest ≡ false
-unfolding starts_with
-starts_short [] rest short = absurd (omega arith)
-starts_short (x ∷ front) [] short = refl
-starts_short (x ∷ front) (y ∷ rest) short = rw (starts_short front rest (omega arith)) (and-false (eqb x y))
-
 pub starts-append : (front rest : List ℕ) → starts_with front (front ++ rest) ≡ true
 unfolding starts_with
 starts-append [] rest = refl
@@ -62,18 +55,15 @@ starts_front (x ∷ front) (y ∷ rest) is =
       rest_is = rw (eqb-true x y both.0) (ap (λ (l : List ℕ). y ∷ l) (starts_front front rest both.1).rest_is);
     }
 
--- at the head of the loop that compares
-module _ (front rest : List ℕ) (i : ℕ) (in-front : i < length front) (in_rest : i < length rest) where
-  pub starts_on : get_or rest i 0 ≡ get_or front i 0
-      → starts_with (drop i front) (drop i rest) ≡ starts_with (drop (i + 1) front) (drop (i + 1) rest)
-  unfolding starts_with
-  starts_on same =
-      rw (add-one, drop-cons front i 0 in-front, drop-cons rest i 0 in_rest, eq-eqb (get_or front i 0) (get_or rest i 0) (sym same))
+-- as the library asks it
+starts_as : (front rest : List ℕ) → asks_starts eqb rest front ≡ starts_with front rest
+unfolding starts_with
+starts_as [] rest = refl
+starts_as (x ∷ front) [] = refl
+starts_as (x ∷ front) (y ∷ rest) = ap (λ (b : Bool). eqb x y && b) (starts_as front rest)
 
-  pub starts_not : (get_or rest i 0 ≡ get_or front i 0 → ⊥) → starts_with (drop i front) (drop i rest) ≡ false
-  unfolding starts_with
-  starts_not other =
-      rw (drop-cons front i 0 in-front, drop-cons rest i 0 in_rest, ne_eqb (get_or front i 0) (get_or rest i 0) (λ same. other (sym same)))
+pub asked : (front rest : List ℕ) (answer : Bool) → answer ≡ asks_starts eqb rest front → starts_with front rest ≡ answer
+asked front rest answer is = sym (is ∙ starts_as front rest)
 
 other_apart : (x y : ℕ) → small x ≡ false → small y ≡ true → eqb x y ≡ false
 other_apart x y other one = ne_eqb x y (λ same. true≢false (sym one ∙ (rw (← same) other)))
@@ -92,35 +82,21 @@ starts_otherwise (x ∷ front) s more (y ∷ word) t rest a b c d otherwise =
     (and_parts (small y) (all_small word) c).1 d otherwise) (and-false (eqb x y))
 
 -- ## Conditions
-taken_some : (front rest : List ℕ) → 0 < taken_by front rest → (starts_with front rest ≡ true) × (taken_by front rest ≡ length front)
-unfolding taken_by
-taken_some front rest some =
-    by_test (starts_with front rest) (λ is. (is, rw is refl)) (λ is-not. absurd (omega (arith, rw is-not at some)))
-
-taken_none : (front rest : List ℕ) → 0 < length front → taken_by front rest ≤ 0 → starts_with front rest ≡ false
-unfolding taken_by
-taken_none front rest some none =
-    by_test (starts_with front rest) (λ is. absurd (omega (arith, rw is at none))) (λ is-not. is-not)
-
 -- the number below
 below : (n : ℕ) → suc n - 1 ≡ n
 below n = omega arith
 
 module _ (rest : List ℕ) where
-  pub spelled_here : (n : ℕ) → 0 < n → 0 < taken_by (spelled (n - 1)) rest
-      → spelled_in n rest ≡ Condition (n - 1) (taken_by (spelled (n - 1)) rest)
+  pub spelled_here : (n : ℕ) → 0 < n → starts_with (spelled (n - 1)) rest ≡ true
+      → spelled_in n rest ≡ Some (Condition (n - 1) (length (spelled (n - 1))))
   unfolding spelled_in
   spelled_here zero some is = absurd (omega arith)
-  spelled_here (suc n) some is =
-      let both = taken_some (spelled n) rest (rw below at is) in
-      rw (below, both.0, both.1)
+  spelled_here (suc n) some is = rw (below n, rw below at is)
 
-  pub spelled_later : (n : ℕ) → 0 < n → taken_by (spelled (n - 1)) rest ≤ 0 → spelled_in n rest ≡ spelled_in (n - 1) rest
-  unfolding spelled_in spelled letters
+  pub spelled_later : (n : ℕ) → 0 < n → starts_with (spelled (n - 1)) rest ≡ false → spelled_in n rest ≡ spelled_in (n - 1) rest
+  unfolding spelled_in
   spelled_later zero some is = absurd (omega arith)
-  spelled_later (suc n) some is =
-      let long = length-append (spelling n) (letters " ") in
-      rw (below, taken_none (spelled n) rest (omega arith) (rw below at is))
+  spelled_later (suc n) some is = rw (below n, rw below at is)
 
 -- what a head tells of the bytes
 pub record ConditionHere (rest : List ℕ) (number taken : ℕ) : Type 0 where
@@ -131,10 +107,10 @@ pub record GroupHere (rest : List ℕ) (gate taken : ℕ) : Type 0 where
   pub line : Begins (print (group (gate_of gate)) ++ (10 ∷ [])) rest taken
   pub gate_low : gate ≤ 1
 
-abbrev pub HeadHere : List ℕ → Head → Type 0
-HeadHere rest (GroupHead gate taken) = GroupHere rest gate taken
-HeadHere rest (Condition number taken) = ConditionHere rest number taken
-HeadHere rest NoHead = Unit
+abbrev pub HeadHere : List ℕ → Option Head → Type 0
+HeadHere rest (Some (GroupHead gate taken)) = GroupHere rest gate taken
+HeadHere rest (Some (Condition number taken)) = ConditionHere rest number taken
+HeadHere rest None = Unit
 
 spelled-found : (number : ℕ) (rest : List ℕ) → number ≤ 9 → HeadHere rest (spelled_in number rest)
 unfolding spelled_in spellings
@@ -154,7 +130,7 @@ head_here rest =
     (λ is. rw (is-not, is) (record { line = starts_front (letters "group opened" ++ (10 ∷ [])) rest is; gate_low = omega arith }))
     (λ neither. rw (is-not, neither) (spelled-found 9 rest (omega arith))))
 
-pub head-found : (rest : List ℕ) (head : Head) → head_in rest ≡ head → HeadHere rest head
+pub head-found : (rest : List ℕ) (head : Option Head) → head_in rest ≡ head → HeadHere rest head
 head-found rest head is = subst (HeadHere rest) is (head_here rest)
 
 -- ## Letters
@@ -163,9 +139,9 @@ pub record LettersHere (rest : List ℕ) (count taken : ℕ) : Type 0 where
   pub small_there : all_small (take count rest) ≡ true
   pub at_most : count ≤ taken
 
-abbrev pub PartHere : List ℕ → Part → Type 0
-PartHere rest (Letters count taken) = LettersHere rest count taken
-PartHere rest NoPart = Unit
+abbrev pub PartHere : List ℕ → Option Letters → Type 0
+PartHere rest (Some one) = LettersHere rest one.count one.taken
+PartHere rest None = Unit
 
 part_some : (letters : List ℕ) → 0 < length letters → part letters ≡ letters
 unfolding part
@@ -192,21 +168,28 @@ part_here rest =
     (λ is. rw (is-not, is) (record { letters_there = starts_front (45 ∷ []) rest is; small_there = refl; at_most = omega arith }))
     (λ neither. rw (is-not, neither) tt))
 
-pub part-found : (rest : List ℕ) (found : Part) → part_in rest ≡ found → PartHere rest found
+pub part-found : (rest : List ℕ) (found : Option Letters) → part_in rest ≡ found → PartHere rest found
 part-found rest found is = subst (PartHere rest) is (part_here rest)
 
+-- letters found at a place stand inside the bytes
+pub part_inside : (rest : List ℕ) (at : ℕ) {one : Letters} → at ≤ length rest → part_in (drop at rest) ≡ Some one
+    → (one.count ≤ one.taken) × (at + one.taken ≤ length rest)
+part_inside rest at {one} low is =
+    let here : LettersHere (drop at rest) one.count one.taken = part-found (drop at rest) (Some one) is in
+    (here.at_most, omega (arith, inside here.letters_there, length-drop at rest))
+
 pub part_read : (word : List ℕ) (other : ℕ) (more : List ℕ) → all_small word ≡ true → small other ≡ false
-    → part_in (part word ++ (other ∷ more)) ≡ Letters (length word) (length (part word))
+    → part_in (part word ++ (other ∷ more)) ≡ Some (letters_in (length word) (length (part word)))
 unfolding part_in part letters starts_with first_other
 part_read [] other more all outside = refl
 part_read (x ∷ word) other more all outside =
     rw (first_behind (x ∷ word) other more all outside, lt-ltb 0 (suc (length word)) (omega arith)) refl
 
 -- ## The close
-abbrev pub CloseHere : List ℕ → Close → Type 0
-CloseHere rest Plain = Begins (10 ∷ []) rest 1
-CloseHere rest Opens = Begins (letters " opens" ++ (10 ∷ [])) rest 7
-CloseHere rest NoClose = Unit
+abbrev pub CloseHere : List ℕ → Option Close → Type 0
+CloseHere rest (Some Plain) = Begins (10 ∷ []) rest 1
+CloseHere rest (Some Opens) = Begins (letters " opens" ++ (10 ∷ [])) rest 7
+CloseHere rest None = Unit
 
 close_here : (rest : List ℕ) → CloseHere rest (close_in rest)
 unfolding close_in letters
@@ -216,5 +199,5 @@ close_here rest =
     by_test (starts_with (letters " opens" ++ (10 ∷ [])) rest)
     (λ is. rw (is-not, is) (starts_front (letters " opens" ++ (10 ∷ [])) rest is)) (λ neither. rw (is-not, neither) tt))
 
-pub close-found : (rest : List ℕ) (found : Close) → close_in rest ≡ found → CloseHere rest found
+pub close-found : (rest : List ℕ) (found : Option Close) → close_in rest ≡ found → CloseHere rest found
 close-found rest found is = subst (CloseHere rest) is (close_here rest)

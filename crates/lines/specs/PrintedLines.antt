@@ -1,5 +1,5 @@
 -- A printed line is read: the reader of one line finds it, and so no two lists of lines have the same text.
-use Rattle.std.specs.Prelude.{ℕ, zero, suc, ◌+◌, ◌-◌, ◌<◌, ◌≡◌, Bool, ◌&&◌, eqb, ltb, take, drop}
+use Rattle.std.specs.Prelude.{ℕ, zero, suc, ◌+◌, ◌-◌, ◌<◌, ◌≡◌, Bool, ◌&&◌, eqb, ltb, take, drop, Option, Some}
 use Rattle.std.proofs.Math.Path.{refl, ap}
 use Rattle.std.proofs.Common.{sym, ap₂, ◌∙◌, arith, drop-drop, ltb-true}
 use Rattle.std.proofs.Math.Bool.{true, false, cond}
@@ -14,16 +14,15 @@ use Rattle.paper.specs.Words.{small, all_small}
 use Rattle.printed.specs.Printed.{text_of}
 use Rattle.printed.specs.PrintedLaws.{got, Reads, all_of, one_reading}
 use Rattle.lines.specs.Lines.{Line, group, rule, spellings, spelling, part, action, print, form}
-use Rattle.lines.specs.Reading.{starts_with, spelled, spelled_in, head_in, part_in, close_in, closed_at, closed_in, unclosed}
+use Rattle.lines.specs.Reading.{starts_with, spelled, spelled_in, head_in, letters_in, part_in, close_in, closed_at, closed_in, unclosed}
 use Rattle.lines.specs.Reading.{after_arrow, after_condition, found_in, rule_of, told, read_line}
 use Rattle.lines.specs.PartLaws.{starts-append, starts_otherwise, part_read}
 use Rattle.lines.specs.ReadingLaws.{sound}
-use Rattle.lines.specs.declared.Found.{Found}
-use Rattle.lines.specs.declared.Found.TheVariants.{Rule as RuleFound}
+use Rattle.lines.specs.declared.LineRead.{LineRead}
+use Rattle.lines.specs.declared.LineRead.TheVariants.{Rule as RuleFound}
 use Rattle.lines.specs.declared.RuleLine.{RuleLine}
 use Rattle.lines.specs.declared.parts.Head.{Head}
 use Rattle.lines.specs.declared.parts.Head.TheVariants.{Condition}
-use Rattle.lines.specs.declared.parts.Part.TheVariants.{Letters}
 
 -- ## Places
 -- what stands behind a front, from a place on
@@ -49,16 +48,16 @@ and_not c [] more all otherwise = refl
 and_not c (x ∷ word) more all otherwise =
     starts_otherwise (letters "and") 32 c (x ∷ word) 32 (letters "-> " ++ more) refl refl all refl otherwise
 
-neither : (x y z : Head) {a b : Bool} → a ≡ false → b ≡ false → cond a x (cond b y z) ≡ z
+neither : (x y z : Option Head) {a b : Bool} → a ≡ false → b ≡ false → cond a x (cond b y z) ≡ z
 neither x y z one other = rw (one, other)
 
 head_read : (number : ℕ) (word more : List ℕ) → number < length spellings → all_small word ≡ true
-    → head_in (spelled number ++ (part word ++ (letters " -> " ++ more))) ≡ Condition number (length (spelled number))
+    → head_in (spelled number ++ (part word ++ (letters " -> " ++ more))) ≡ Some (Condition number (length (spelled number)))
 unfolding head_in spelled_in spelled spelling spellings starts_with letters
 head_read zero word more low all = refl
 head_read (suc zero) word more low all = refl
 head_read (suc (suc zero)) word more low all =
-    neither (Condition 8 18) (Condition 4 19) (Condition 2 4) (and_not (letters "*d and *L ") word more all refl)
+    neither (Some (Condition 8 18)) (Some (Condition 4 19)) (Some (Condition 2 4)) (and_not (letters "*d and *L ") word more all refl)
     (and_not (letters "(*S or *T) ") word more all refl)
 head_read (suc (suc (suc zero))) word more low all = refl
 head_read (suc (suc (suc (suc zero)))) word more low all = refl
@@ -70,9 +69,9 @@ head_read (suc (suc (suc (suc (suc (suc (suc (suc (suc number))))))))) word more
 
 -- ## The close
 -- the line is found as this rule, and this stands behind it
-record ReadAs (rest : List ℕ) (found : Found) (one : Rule) (more : List ℕ) : Type 0 where
+record ReadAs (rest : List ℕ) (found : Option LineRead) (one : Rule) (more : List ℕ) : Type 0 where
   line : RuleLine
-  is_found : found ≡ RuleFound line
+  is_found : found ≡ Some (RuleFound line)
   is_rule : rule_of rest line ≡ one
   is_behind : drop line.taken rest ≡ more
 
@@ -148,7 +147,7 @@ module _ (rest : List ℕ) (condition start middle from : ℕ) (opens : Bool) (m
       let front = starts_with (letters "single letter") in
       let closed = cond opens (letters " opens") [] ++ (10 ∷ more) in
       let not_so : front (drop from rest) ≡ false = ap front is ∙ not_single s2 closed all end in
-      let found : part_in (drop from rest) ≡ Letters (length s2) (length (part s2)) =
+      let found : part_in (drop from rest) ≡ Some (letters_in (length s2) (length (part s2))) =
       ap part_in (is ∙ ap (λ (l : List ℕ). part s2 ++ l) end.rest_is) ∙ part_read s2 end.first end.others all end.no_letter in
       let line = unclosed condition 0 start middle from (from + length s2) (from + length (part s2)) in
       rw (not_so, found)
@@ -172,7 +171,7 @@ module _ (rest : List ℕ) (one : Rule) (start : ℕ) (more : List ℕ) where
   ending_read all small-too is =
       let e = one.ending in
       let arrow = start + length (part e) in
-      let found : part_in (drop start rest) ≡ Letters (length e) (length (part e)) =
+      let found : part_in (drop start rest) ≡ Some (letters_in (length e) (length (part e))) =
       ap part_in is ∙ part_read e 32 (letters "-> " ++ behind_arrow) all refl in
       let at-arrow = behind rest start (part e) (letters " -> " ++ behind_arrow) is in
       let so : starts_with (letters " -> ") (drop arrow rest) ≡ true =
@@ -197,7 +196,7 @@ unfolding found_in
 found_read rest one more low small_ending small_replacement is =
     let start = length (spelled one.condition) in
     let tail = action one.action ++ (cond one.opens (letters " opens") [] ++ (10 ∷ more)) in
-    let head : head_in rest ≡ Condition one.condition start =
+    let head : head_in rest ≡ Some (Condition one.condition start) =
     ap head_in is ∙ head_read one.condition one.ending tail low small_ending in
     let from : drop start rest ≡ part one.ending ++ (letters " -> " ++ tail) =
     ap (drop start) is ∙ drop-append_seam (spelled one.condition) (part one.ending ++ (letters " -> " ++ tail)) in

@@ -1,5 +1,5 @@
 -- The reader of one line finds a line exactly where one is printed with its line feed.
-use Rattle.std.specs.Prelude.{ℕ, ◌+◌, ◌-◌, ◌≤◌, ◌<◌, ◌≡◌, true, length, take}
+use Rattle.std.specs.Prelude.{ℕ, ◌+◌, ◌-◌, ◌≤◌, ◌<◌, ◌≡◌, true, length, take, Option, Some, None}
 use Rattle.std.proofs.Math.Path.{refl}
 use Rattle.std.proofs.Common.{subst, ◌∙◌, arith, lt-ltb}
 use mathlib.Core.List.{List, [], ◌∷◌, ◌++◌, append_assoc, append-nil}
@@ -15,15 +15,14 @@ use Rattle.lines.specs.Reading.{starts_with, spelled, head_in, part_in, close_in
 use Rattle.lines.specs.Reading.{by_replacement, after_arrow, by_ending, after_condition, by_head, found_in, rule_of, told, read_line}
 use Rattle.lines.specs.PartLaws.{Begins, inside, then, starts_front, GroupHere, ConditionHere}
 use Rattle.lines.specs.PartLaws.{head-found, part-found, close-found}
-use Rattle.lines.specs.declared.Found.{Found}
-use Rattle.lines.specs.declared.Found.TheVariants.{Group, Rule as RuleFound, Wrong}
+use Rattle.lines.specs.declared.LineRead.{LineRead}
+use Rattle.lines.specs.declared.LineRead.TheVariants.{Group, Rule as RuleFound}
 use Rattle.lines.specs.declared.RuleLine.{RuleLine}
 use Rattle.lines.specs.declared.parts.Head.{Head}
-use Rattle.lines.specs.declared.parts.Head.TheVariants.{Group as GroupHead, Condition, Nothing as NoHead}
-use Rattle.lines.specs.declared.parts.Part.{Part}
-use Rattle.lines.specs.declared.parts.Part.TheVariants.{Letters, Nothing as NoPart}
+use Rattle.lines.specs.declared.parts.Head.TheVariants.{Group as GroupHead, Condition}
+use Rattle.lines.specs.declared.parts.Letters.{Letters}
 use Rattle.lines.specs.declared.parts.Close.{Close}
-use Rattle.lines.specs.declared.parts.Close.TheVariants.{Plain, Opens, Nothing as NoClose}
+use Rattle.lines.specs.declared.parts.Close.TheVariants.{Plain, Opens}
 
 -- the bytes from a place up to another
 abbrev between : List ℕ → ℕ → ℕ → List ℕ
@@ -49,10 +48,10 @@ pub record RuleHere (rest : List ℕ) (line : RuleLine) : Type 0 where
   pub low_opens : line.opens ≤ 1
   pub ordered : OrderedIn rest line
 
-abbrev pub FoundHere : List ℕ → Found → Type 0
-FoundHere rest (Group gate taken) = GroupHere rest gate taken
-FoundHere rest (RuleFound line) = RuleHere rest line
-FoundHere rest Wrong = Unit
+abbrev pub FoundHere : List ℕ → Option LineRead → Type 0
+FoundHere rest (Some (Group gate taken)) = GroupHere rest gate taken
+FoundHere rest (Some (RuleFound line)) = RuleHere rest line
+FoundHere rest None = Unit
 
 -- a rule's line, read up to its close
 record Unclosed (rest : List ℕ) (line : RuleLine) : Type 0 where
@@ -73,32 +72,32 @@ print_opens : (c e a : List ℕ) → (c ++ letters " ") ++ (e ++ (letters " -> "
     ≡ (c ++ (letters " " ++ (e ++ (letters " -> " ++ (a ++ letters " opens"))))) ++ (10 ∷ [])
 print_opens c e a = simp append_assoc
 
-closed_here : (rest : List ℕ) (line : RuleLine) → Unclosed rest line → (close : Close) → close_in (drop line.taken rest) ≡ close
+closed_here : (rest : List ℕ) (line : RuleLine) → Unclosed rest line → (close : Option Close) → close_in (drop line.taken rest) ≡ close
     → FoundHere rest (by_close line close)
 unfolding spelled print form
-closed_here rest line read Plain is =
+closed_here rest line read (Some Plain) is =
     let at = read.places in
     let e = between rest line.start line.middle in
     let a = action_of line.action (between rest line.from line.end) in
-    let whole = then read.so_far (close-found (drop line.taken rest) Plain is) in
+    let whole = then read.so_far (close-found (drop line.taken rest) (Some Plain) is) in
     record {
       printed = rw read.not_opened (rw (print-plain (spelling line.condition) (part e) (action a)) at whole);
       of_form = rw (lt-ltb line.condition (length spellings) at.one_of_nine, read.small_ending, read.small_replacement);
       low_opens = omega (arith, read.not_opened);
       ordered = at;
     }
-closed_here rest line read Opens is =
+closed_here rest line read (Some Opens) is =
     let at = read.places in
     let e = between rest line.start line.middle in
     let a = action_of line.action (between rest line.from line.end) in
-    let whole = then read.so_far (close-found (drop line.taken rest) Opens is) in
+    let whole = then read.so_far (close-found (drop line.taken rest) (Some Opens) is) in
     record {
       printed = rw (print_opens (spelling line.condition) (part e) (action a)) at whole;
       of_form = rw (lt-ltb line.condition (length spellings) at.one_of_nine, read.small_ending, read.small_replacement);
       low_opens = omega arith;
       ordered = at;
     }
-closed_here rest line read NoClose is = tt
+closed_here rest line read None is = tt
 
 closed_there : (rest : List ℕ) (line : RuleLine) → Unclosed rest line → FoundHere rest (closed_in rest line)
 unfolding closed_in
@@ -119,10 +118,13 @@ module _ (rest : List ℕ) (condition start middle from : ℕ) (read : Begun res
   abbrev e : List ℕ
   e = part (between rest start middle)
 
-  replaced_here : (found : Part) → part_in (drop from rest) ≡ found → FoundHere rest (by_replacement rest condition start middle from found)
+  replaced_here : (found : Option Letters) → part_in (drop from rest) ≡ found
+      → FoundHere rest (by_replacement rest condition start middle from found)
   unfolding action
-  replaced_here (Letters count taken) is =
-      let here = part-found (drop from rest) (Letters count taken) is in
+  replaced_here (Some one) is =
+      let count = one.count in
+      let taken = one.taken in
+      let here = part-found (drop from rest) (Some one) is in
       let there : Begins (part (between rest from (from + count))) (drop from rest) taken = rw (so_many from count) here.letters_there in
       closed_there rest (unclosed condition 0 start middle from (from + count) (from + taken))
       (record {
@@ -144,7 +146,7 @@ module _ (rest : List ℕ) (condition start middle from : ℕ) (read : Begun res
               none_if_single = λ one. absurd (omega arith);
             };
       })
-  replaced_here NoPart is = tt
+  replaced_here None is = tt
 
   single_here : starts_with (letters "single letter") (drop from rest) ≡ true
       → FoundHere rest (closed_in rest (unclosed condition 1 start middle from from (from + 13)))
@@ -176,10 +178,12 @@ module _ (rest : List ℕ) (condition start middle from : ℕ) (read : Begun res
       (λ is-not. rw is-not (replaced_here (part_in (drop from rest)) refl))
 
 module _ (rest : List ℕ) (condition start : ℕ) (here : ConditionHere rest condition start) where
-  ending_here : (found : Part) → part_in (drop start rest) ≡ found → FoundHere rest (by_ending rest condition start found)
+  ending_here : (found : Option Letters) → part_in (drop start rest) ≡ found → FoundHere rest (by_ending rest condition start found)
   unfolding letters
-  ending_here (Letters count taken) is =
-      let ending = part-found (drop start rest) (Letters count taken) is in
+  ending_here (Some one) is =
+      let count = one.count in
+      let taken = one.taken in
+      let ending = part-found (drop start rest) (Some one) is in
       let there : Begins (part (between rest start (start + count))) (drop start rest) taken =
       rw (so_many start count) ending.letters_there in
       by_test (starts_with (letters " -> ") (drop (start + taken) rest))
@@ -196,40 +200,41 @@ module _ (rest : List ℕ) (condition start : ℕ) (here : ConditionHere rest co
             omega (arith, ending.at_most, inside ending.letters_there, length-drop start rest, inside here.spells);
       })))
       (λ is-not. rw is-not tt)
-  ending_here NoPart is = tt
+  ending_here None is = tt
 
   condition_here : FoundHere rest (after_condition rest condition start)
   unfolding after_condition
   condition_here = ending_here (part_in (drop start rest)) refl
 
-head_here : (rest : List ℕ) (head : Head) → head_in rest ≡ head → FoundHere rest (by_head rest head)
-head_here rest (GroupHead gate taken) is = head-found rest (GroupHead gate taken) is
-head_here rest (Condition number taken) is = condition_here rest number taken (head-found rest (Condition number taken) is)
-head_here rest NoHead is = tt
+head_here : (rest : List ℕ) (head : Option Head) → head_in rest ≡ head → FoundHere rest (by_head rest head)
+head_here rest (Some (GroupHead gate taken)) is = head-found rest (Some (GroupHead gate taken)) is
+head_here rest (Some (Condition number taken)) is =
+    condition_here rest number taken (head-found rest (Some (Condition number taken)) is)
+head_here rest None is = tt
 
-pub found_here : (rest : List ℕ) (found : Found) → found_in rest ≡ found → FoundHere rest found
+pub found_here : (rest : List ℕ) (found : Option LineRead) → found_in rest ≡ found → FoundHere rest found
 unfolding found_in
 found_here rest found is = subst (FoundHere rest) is (head_here rest (head_in rest) refl)
 
 -- a line that is found is of the form, and stands there with its line feed
 module _ (rest : List ℕ) (line : Line) (more : List ℕ) where
-  is_there : (found : Found) → found_in rest ≡ found → told rest found ≡ got line more
+  is_there : (found : Option LineRead) → found_in rest ≡ found → told rest found ≡ got line more
       → (form line ≡ true) × (rest ≡ print line ++ (10 ∷ more))
   unfolding form
-  is_there (Group gate taken) is e =
-      let here = (found_here rest (Group gate taken) is).line.rest_is in
+  is_there (Some (Group gate taken)) is e =
+      let here = (found_here rest (Some (Group gate taken)) is).line.rest_is in
       let this : group (gate_of gate) ≡ line = cc in
       let behind : drop taken rest ≡ more = cc in
       (rw (← this) refl, rw (← this, ← behind) (here ∙ append_assoc (print (group (gate_of gate))) (10 ∷ []) (drop taken rest)))
-  is_there (RuleFound found) is e =
-      let here = found_here rest (RuleFound found) is in
+  is_there (Some (RuleFound found)) is e =
+      let here = found_here rest (Some (RuleFound found)) is in
       let this : rule (rule_of rest found) ≡ line = cc in
       let behind : drop found.taken rest ≡ more = cc in (
         rw (← this) here.of_form,
         rw (← this, ← behind)
             (here.printed.rest_is ∙ append_assoc (print (rule (rule_of rest found))) (10 ∷ []) (drop found.taken rest)),
       )
-  is_there Wrong is e = apart (cc)
+  is_there None is e = apart (cc)
 
   pub sound : read_line rest ≡ got line more → (form line ≡ true) × (rest ≡ print line ++ (10 ∷ more))
   unfolding read_line

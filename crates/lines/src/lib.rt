@@ -7,7 +7,7 @@ mod parts;
 ghost use Rattle.std.specs.Prelude.{◌≡◌, ◌≤◌, length};
 ghost use Rattle.lines.specs.Reading.{found_in, after_condition, after_arrow, closed_in};
 
-use parts::{Close, Head, Part, read_close, read_head, read_part, starts};
+use parts::{Close, Head, read_close, read_head, read_part};
 
 // A rule's line, by places in the bytes that begin with it: its ending stands from `start` to `middle`, its replacement from `from` to
 // `end`, and the next line begins at `taken`.
@@ -23,43 +23,46 @@ pub struct RuleLine {
     pub taken: usize,
 }
 
-// What stands first in the rest of a text.
-#[derive(Drop)]
-pub enum Found {
+// The line that stands first in the rest of a text.
+#[derive(Clone, Copy)]
+pub enum LineRead {
     // A group's line; the next line begins at `taken`.
     Group { gate: usize, taken: usize },
     Rule(RuleLine),
-    // No line of this form.
-    Wrong,
 }
 
 // The rule's line, of which all but the close was read, up to `taken`.
-fn closed(rest: &[u8], line: RuleLine) -> Found
+fn closed(rest: &[u8], line: RuleLine) -> Option<LineRead>
     requires { line.taken ≤ length rest.now }
     ensures { result ≡ closed_in rest.now line }
 {
     let at = line.taken;
-    let mut whole = line;
-    match read_close(&rest[at..]) {
-        Close::Plain => {
-            whole.taken = at + 1;
-            Found::Rule(whole)
-        }
-        Close::Opens => {
-            whole.opens = 1;
-            whole.taken = at + 7;
-            Found::Rule(whole)
-        }
-        Close::Nothing => Found::Wrong,
-    }
+    let whole = match read_close(&rest[at..])? {
+        Close::Plain => RuleLine {
+            taken: at + 1,
+            ..line
+        },
+        Close::Opens => RuleLine {
+            opens: 1,
+            taken: at + 7,
+            ..line
+        },
+    };
+    Some(LineRead::Rule(whole))
 }
 
 // The rule's line, of which condition, ending and arrow were read, up to `from`.
-fn replaced(rest: &[u8], condition: u8, start: usize, middle: usize, from: usize) -> Found
+fn replaced(
+    rest: &[u8],
+    condition: u8,
+    start: usize,
+    middle: usize,
+    from: usize,
+) -> Option<LineRead>
     requires { from ≤ length rest.now }
     ensures { result ≡ after_arrow rest.now condition start middle from }
 {
-    if starts(&rest[from..], b"single letter") {
+    if rest[from..].starts_with(b"single letter") {
         let line = RuleLine {
             condition,
             action: 1,
@@ -72,48 +75,39 @@ fn replaced(rest: &[u8], condition: u8, start: usize, middle: usize, from: usize
         };
         return closed(rest, line);
     }
-    match read_part(&rest[from..]) {
-        Part::Letters { count, taken } => {
-            let line = RuleLine {
-                condition,
-                action: 0,
-                opens: 0,
-                start,
-                middle,
-                from,
-                end: from + count,
-                taken: from + taken,
-            };
-            closed(rest, line)
-        }
-        Part::Nothing => Found::Wrong,
-    }
+    let letters = read_part(&rest[from..])?;
+    let line = RuleLine {
+        condition,
+        action: 0,
+        opens: 0,
+        start,
+        middle,
+        from,
+        end: from + letters.count,
+        taken: from + letters.taken,
+    };
+    closed(rest, line)
 }
 
 // The rule's line, of which the condition and the space behind it were read, up to `start`.
-fn rule(rest: &[u8], condition: u8, start: usize) -> Found
+fn rule(rest: &[u8], condition: u8, start: usize) -> Option<LineRead>
     requires { start ≤ length rest.now }
     ensures { result ≡ after_condition rest.now condition start }
 {
-    match read_part(&rest[start..]) {
-        Part::Letters { count, taken } => {
-            let arrow = start + taken;
-            if starts(&rest[arrow..], b" -> ") {
-                return replaced(rest, condition, start, start + count, arrow + 4);
-            }
-            Found::Wrong
-        }
-        Part::Nothing => Found::Wrong,
+    let letters = read_part(&rest[start..])?;
+    let arrow = start + letters.taken;
+    if rest[arrow..].starts_with(b" -> ") {
+        return replaced(rest, condition, start, start + letters.count, arrow + 4);
     }
+    None
 }
 
-// The line with which these bytes begin.
-pub fn line(rest: &[u8]) -> Found
+// The line with which these bytes begin, if one does.
+pub fn line(rest: &[u8]) -> Option<LineRead>
     ensures { result ≡ found_in rest.now }
 {
-    match read_head(rest) {
-        Head::Group { gate, taken } => Found::Group { gate, taken },
+    match read_head(rest)? {
+        Head::Group { gate, taken } => Some(LineRead::Group { gate, taken }),
         Head::Condition { number, taken } => rule(rest, number, taken),
-        Head::Nothing => Found::Wrong,
     }
 }

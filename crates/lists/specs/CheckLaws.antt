@@ -1,15 +1,19 @@
 -- The check of a list, record by record: what is known after so many of them.
-use Rattle.std.specs.Prelude.{ℕ, zero, suc, ◌+◌, ◌≤◌, ◌<◌, ◌≡◌, true, length, drop}
+use Rattle.std.specs.Prelude.{ℕ, zero, suc, ◌+◌, ◌≤◌, ◌≡◌, true, Ok, Err, length, drop}
 use Rattle.std.proofs.Math.Path.{refl, ap}
 use Rattle.std.proofs.Common.{sym, ◌∙◌, zero-add, arith}
 use mathlib.Core.List.{List}
 use Rattle.records.specs.Framing.{body, record_length, after}
+use Rattle.records.specs.FramingLaws.{next_inside}
 use Rattle.records.specs.RecordLaws.{EndHere}
 use Rattle.answers.specs.Answers.{Said, says_list}
-use Rattle.answers.specs.declared.ListChecked.TheVariants.{Accepted, Refused}
+use Rattle.answers.specs.declared.FaultyList.{FaultyList}
 use Rattle.lists.specs.Lists.{Entry, entry_in, faulty, Listing, faulty_at_lem, holding, entry_then, read_rest, read_list}
 use Rattle.lists.specs.Calls.{check_of, checked}
 use Rattle.lists.specs.ListSteps.{entry-step, close-step, fault_step, EntryAt}
+
+abbrev pub faulty_list : ℕ → FaultyList
+faulty_list offset = record { offset = offset }
 
 -- a check, with so many words before
 abbrev counted : ℕ → Listing → Said
@@ -55,35 +59,35 @@ module _ {list : List ℕ} {at count : ℕ} (state : State list at count) where
                 ∙ left);
           }
 
-  pub at_close : at < length list → EndHere (drop at list) → says_list (Accepted count) ≡ checked list
-  at_close inside here = go state.steps state.enough state.left
+  pub at_close : EndHere (drop at list) → says_list (Ok count) ≡ checked list
+  at_close here = go state.steps state.enough state.left
     where
       go : (steps : ℕ) → length list ≤ at + steps → counted count (read_rest steps at (drop at list)) ≡ checked list
-          → says_list (Accepted count) ≡ checked list
-      go zero enough left = absurd (omega arith)
+          → says_list (Ok count) ≡ checked list
+      go zero enough left = absurd (omega (arith, next_inside list at here.whole))
       go (suc steps) enough left =
           let none_more : count ≡ count + 0 = omega arith in
           ap (λ (n : ℕ). record { number = 0; value = n }) none_more ∙ sym (ap (counted count) (close-step steps at here)) ∙ left
 
-  pub at_fault : faulty (drop at list) ≡ true → says_list (Refused at) ≡ checked list
+  pub at_fault : faulty (drop at list) ≡ true → says_list (Err (faulty_list at)) ≡ checked list
   at_fault is = sym (ap (counted count) (fault_step state.steps at (drop at list) is)) ∙ state.left
 
 -- ## What an answer says of the list
 
 module _ (list : List ℕ) where
-  pub by_refused : {place : ℕ} → says_list (Refused place) ≡ checked list → read_list list ≡ faulty_at_lem place
+  pub by_refused : {place : ℕ} → says_list (Err (faulty_list place)) ≡ checked list → read_list list ≡ faulty_at_lem place
   unfolding checked
   by_refused {place} is = go (read_list list) is
     where
-      go : (listing : Listing) → says_list (Refused place) ≡ check_of listing → listing ≡ faulty_at_lem place
+      go : (listing : Listing) → says_list (Err (faulty_list place)) ≡ check_of listing → listing ≡ faulty_at_lem place
       go (faulty_at_lem fault) e = ap (λ (s : Said). faulty_at_lem s.value) (sym e)
       go (holding entries) e = absurd (omega (arith, ap (λ (s : Said). s.number) e))
 
-  pub by_accepted : {count : ℕ} → says_list (Accepted count) ≡ checked list → (entries : List Entry) × (read_list list ≡ holding entries)
+  pub by_accepted : {count : ℕ} → says_list (Ok count) ≡ checked list → (entries : List Entry) × (read_list list ≡ holding entries)
   unfolding checked
   by_accepted {count} is = go (read_list list) refl is
     where
-      go : (listing : Listing) → read_list list ≡ listing → says_list (Accepted count) ≡ check_of listing
+      go : (listing : Listing) → read_list list ≡ listing → says_list (Ok count) ≡ check_of listing
           → (entries : List Entry) × (read_list list ≡ holding entries)
       go (faulty_at_lem fault) read e = absurd (omega (arith, ap (λ (s : Said). s.number) e))
       go (holding entries) read e = (entries, read)

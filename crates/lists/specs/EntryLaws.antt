@@ -1,16 +1,18 @@
 -- The body of one record: what its word and its stem are where it is long enough, and what it is known to have where it is not faulty.
 use Prim.Native.Nat.{ℕ, ◌+◌, ◌-◌, ◌≤◌, ◌<◌}
-use Rattle.std.specs.Prelude.{◌≡◌, true, false, not, List, ◌++◌, leb, ltb, take, drop}
-use Rattle.std.proofs.Math.Path.{refl, ap}
-use Rattle.std.proofs.Common.{sym, take-append-drop}
+use Rattle.std.specs.Prelude.{◌≡◌, Bool, true, false, not, ◌&&◌, List, [], ◌∷◌, ◌++◌, eqb, leb, ltb, take, drop}
+use Rattle.std.proofs.Math.Path.{refl, ap, ap₂}
+use Rattle.std.proofs.Common.{sym, ◌∙◌, take-append-drop, length-take}
+use Rattle.std.proofs.Math.Bool.{and-false, and-true}
+use Rattle.std.specs.List.{starts_with}
+use lib.Pointwise.{pointwise}
 use native.Mathlib.Omega.{arith}
 use Rattle.std.proofs.Math.ListN.{length, length-drop}
 use Rattle.std.proofs.Math.Seq.{drop-drop, length-take-le}
-use borrow.Author.Tests.{ltb-false, leb-true, not-false, le-leb}
-use Rattle.paper.specs.Groups.{same, ends_with}
+use borrow.Author.Tests.{eq-eqb, eqb-true, ltb-false, leb-true, not-false, le-leb}
+use Rattle.paper.specs.Groups.{same}
 use Rattle.paper.specs.GroupsLaws.{same_equal}
-use Rattle.paper.specs.ListLaws.{drop-take}
-use Rattle.paper.specs.TestLaws.{by_test, neither_left, neither_right, all_of_six, and_parts}
+use Rattle.paper.specs.TestLaws.{by_test, test_ext, neither_left, neither_right, all_of_six, and_parts}
 use Rattle.paper.specs.Words.{all_small}
 use Rattle.lists.specs.Lists.{Entry, allowed, word_length, word_in, stem_in, entry_in, faulty_entry}
 use Rattle.lists.specs.Searches.{fits, is_for}
@@ -110,15 +112,43 @@ module _ (body word : List ℕ) where
   pub not_fitting : (Fitting body word → ⊥) → false ≡ is_for body word
   not_fitting never = by_test (is_for body word) (λ is. absurd (never (fitting is))) (λ is-not. sym is-not)
 
-  -- then only the letters are left to compare
-  pub by_letters : Fitting body word → ends_with (take (1 + length word) body) word ≡ is_for body word
-  unfolding is_for fits word_in ends_with
-  by_letters is =
-      let n : ℕ = length word in
-      let long = length-take-le (1 + n) body (omega (arith, is.long)) in
-      let behind-n : 1 + n - n ≡ 1 = omega arith in
-      let letters : 1 + n - 1 ≡ n = omega arith in
-      let left = stem_length body in
-      let first = le-leb (1 + word_length body) (length body) (omega (arith, is.size, is.long)) in
-      let second = le-leb (length (stem_in body)) (word_length body) (omega (arith, is.size, is.room)) in
-      rw (long, behind-n, drop-take 1 (1 + n) body, letters, first, second, is.size) refl
+either_way : (a b : ℕ) → eqb a b ≡ eqb b a
+either_way a b =
+    test_ext (eqb a b) (eqb b a) (λ e. eq-eqb b a (sym (eqb-true a b e))) (λ e. eq-eqb a b (sym (eqb-true b a e)))
+
+-- the letters that stand first, compared
+letters_same : (letters word : List ℕ) → pointwise eqb word letters ≡ same letters word
+unfolding same
+letters_same [] [] = refl
+letters_same [] (y ∷ ys) = refl
+letters_same (x ∷ xs) [] = refl
+letters_same (x ∷ xs) (y ∷ ys) = ap₂ (λ (a b : Bool). a && b) (either_way y x) (letters_same xs ys)
+
+-- behind a byte n that is the word's length
+module _ (body word : List ℕ) (size : word_length body ≡ length word) where
+  same_letters : starts_with eqb (drop 1 body) word ≡ same (word_in body) word
+  unfolding word_in
+  same_letters = rw size (letters_same (take (length word) (drop 1 body)) word)
+
+  pub other_letters : starts_with eqb (drop 1 body) word ≡ false → false ≡ is_for body word
+  unfolding is_for
+  other_letters other =
+      let is : same (word_in body) word ≡ false = sym same_letters ∙ other in
+      rw (is, and-false (fits body))
+
+  word_inside : same (word_in body) word ≡ true → length word ≤ length (drop 1 body)
+  unfolding word_in
+  word_inside is =
+      let so_long = ap length (same_equal (word_in body) word is) in
+      omega (arith, so_long, length-take (word_length body) (drop 1 body))
+
+  -- then only the room is left to judge
+  pub by_room : 1 ≤ length body → starts_with eqb (drop 1 body) word ≡ true
+      → leb (length (drop 1 body) - length word) (length word) ≡ is_for body word
+  unfolding is_for fits
+  by_room some starts =
+      let is : same (word_in body) word ≡ true = sym same_letters ∙ starts in
+      let behind_n = length-drop 1 body in
+      let long : length word ≤ length (drop 1 body) = word_inside is in
+      let left : length (stem_in body) ≡ length (drop 1 body) - length word = omega (arith, stem_length body) in
+      rw (is, le-leb (1 + word_length body) (length body) (omega arith), left, size) (sym (and-true _))

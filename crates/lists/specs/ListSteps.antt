@@ -1,5 +1,5 @@
 -- Reading a list, record by record: what a record is by cases, one step of reading for each, and the way through a list by places.
-use Rattle.std.specs.Prelude.{ℕ, zero, suc, ◌+◌, ◌≤◌, ◌<◌, ◌≡◌, refl, Bool, true, false, not, List, [], ◌∷◌, eqb, length, drop}
+use Rattle.std.specs.Prelude.{ℕ, zero, suc, ◌+◌, ◌≤◌, ◌<◌, ◌≡◌, refl, Bool, true, false, not, Option, Some, None, List, [], ◌∷◌, eqb, length, drop}
 use Rattle.std.proofs.Common.{arith}
 use borrow.Author.Tests.{eqb-true, ne_eqb, eqb-false, not-false}
 use Rattle.paper.specs.ListLaws.{empty}
@@ -11,7 +11,7 @@ use Rattle.records.specs.RecordLaws.{EndHere}
 use Rattle.lists.specs.Lists.{entry_in, faulty_entry, faulty, faulty_at_lem, holding, entry_then, read_rest}
 use Rattle.lists.specs.Searches.{item_at}
 use Rattle.lists.specs.declared.Item.{Item}
-use Rattle.lists.specs.declared.Item.TheVariants.{Word, Close, Faulty}
+use Rattle.lists.specs.declared.Item.TheVariants.{Word, Close}
 
 -- ## One record
 
@@ -105,10 +105,10 @@ pub record EntryAt (list : List ℕ) (at next : ℕ) : Type 0 where
   pub left : drop next list ≡ after (drop at list)
 
 -- what the item at a place says of the record there
-abbrev pub Says : List ℕ → ℕ → Item → Type 0
-Says list at (Word next) = EntryAt list at next
-Says list at Close = EndHere (drop at list)
-Says list at Faulty = faulty (drop at list) ≡ true
+abbrev pub Says : List ℕ → ℕ → Option Item → Type 0
+Says list at (Some (Word next)) = EntryAt list at next
+Says list at (Some Close) = EndHere (drop at list)
+Says list at None = faulty (drop at list) ≡ true
 
 module _ (list : List ℕ) (at : ℕ) where
   entry_at : EntryHere (drop at list) → EntryAt list at (next_place list at)

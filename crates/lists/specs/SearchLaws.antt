@@ -1,7 +1,8 @@
 -- The search in a list: what it finds is the stem of the first record for the word, among the records that are passed. Those of a list
 -- that is accepted are the records that it holds.
 use Prim.Native.Nat.{ℕ, zero, suc, ◌+◌, ◌-◌, ◌≤◌}
-use Rattle.std.specs.Prelude.{◌≡◌, true, false, leb}
+use Rattle.std.specs.Borrow.{Bor}
+use Rattle.std.specs.Prelude.{Some, None, ◌≡◌, true, false, leb}
 use Rattle.std.proofs.Math.Path.{refl, sym, ap, ap₂, subst}
 use Rattle.std.proofs.Common.{◌∙◌, drop-drop, leb-true, le-leb}
 use mathlib.Core.List.{List, [], ◌∷◌}
@@ -18,12 +19,10 @@ use Rattle.records.specs.RecordLaws.{EndHere}
 use Rattle.lists.specs.Lists.{Entry, word_length, word_in, stem_in, entry_in, find}
 use Rattle.lists.specs.Lists.{Listing, faulty_at_lem, holding, entry_then, read_rest, read_list}
 use Rattle.lists.specs.Calls.{entries_of, held, stem_place}
-use Rattle.lists.specs.Searches.{fits, passed_rest, passed, is_for, search_rest, searched, found_in, found}
+use Rattle.lists.specs.Searches.{Place, Listed, Unlisted, LentFrom, fits, passed_rest, passed, is_for, search_rest, searched, found_in, found}
 use Rattle.lists.specs.EntryLaws.{word_length_lem, sound}
 use Rattle.lists.specs.ListSteps.{EntryHere, Found, a_fault, an_entry, the_close, look, closed}
 use Rattle.lists.specs.ListSteps.{entry-step, close-step, fault_step}
-use Rattle.lists.specs.declared.Place.{Place}
-use Rattle.lists.specs.declared.Place.TheVariants.{Listed, Unlisted}
 
 -- ## What is found stands in the list
 
@@ -224,11 +223,22 @@ module _ (list word : List ℕ) where
       go (holding entries) is =
           subst (λ (n : ℕ). AtPlace n (searched list word)) (omega arith) (held_by word (length list) 0 0 list entries is).place_is
 
-  -- of a place that was told
-  pub told : {result place : Place} → result ≡ found list word → result ≡ place
-      → Stands list (find (held list) word) place × AtPlace (stem_place (held list) word) place
-  told ensures is =
-      let same_place = sym ensures ∙ is in (
-        subst (Stands list (find (held list) word)) same_place found_stands,
-        subst (AtPlace (stem_place (held list) word)) same_place found_at,
-      )
+  pub told : Stands list (find (held list) word) (found list word) × AtPlace (stem_place (held list) word) (found list word)
+  told = (found_stands, found_at)
+
+-- ## What is lent is what stands there
+
+module _ (list : Bor (List ℕ)) where
+  pub lent_stem : (place : Place) (stem : Option (List ℕ)) (part : Bor (List ℕ)) → LentFrom list place (Some part) → Stands list.now stem place
+      → stem ≡ some part.now
+  lent_stem (Listed start end) stem part lent stands = stands.2 ∙ ap some (sym lent.0)
+  lent_stem Unlisted stem part lent stands = absurd lent
+
+  pub lent_at : (place : Place) (start : ℕ) (part : Bor (List ℕ)) → LentFrom list place (Some part) → AtPlace start place
+      → part.ref_ptr ≡ (list.ref_ptr.0, start + list.ref_ptr.1)
+  lent_at (Listed from end) start part lent is = lent.1 ∙ ap (λ (n : ℕ). (list.ref_ptr.0, n + list.ref_ptr.1)) is
+  lent_at Unlisted start part lent is = absurd lent
+
+  pub nothing_lent : (place : Place) (stem : Option (List ℕ)) → LentFrom list place None → Stands list.now stem place → stem ≡ none
+  nothing_lent (Listed start end) stem lent stands = absurd lent
+  nothing_lent Unlisted stem lent stands = stands

@@ -1,17 +1,16 @@
 -- What the code of this crate tells of any bytes: the record at a place of a list, and where the first record for a word has its
 -- stem, by frames alone. For a list that is accepted the laws say that this is what `Lists` and `Calls` define.
-use Rattle.std.specs.Prelude.{ℕ, zero, suc, ◌+◌, Bool, cond, ◌&&◌, List, [], ◌∷◌, eqb, leb, length, drop}
+use Rattle.std.specs.Prelude.{ℕ, zero, suc, ◌+◌, ◌-◌, ◌≡◌, Bool, cond, Option, Some, None, ◌&&◌, List, [], ◌∷◌, eqb, leb, length, take, drop}
+use Rattle.std.specs.Borrow.{Bor}
 use Rattle.paper.specs.Groups.{same}
 use Rattle.records.specs.Framing.{kind, body, record_length, after, cut, next_place}
 use Rattle.lists.specs.Lists.{Entry, word_length, word_in, stem_in, entry_in, faulty, Listing, faulty_at_lem, holding, read_list}
 use Rattle.lists.specs.declared.Item.{Item}
-use Rattle.lists.specs.declared.Item.TheVariants.{Word, Close, Faulty}
-use Rattle.lists.specs.declared.Place.{Place}
-use Rattle.lists.specs.declared.Place.TheVariants.{Listed, Unlisted}
+use Rattle.lists.specs.declared.Item.TheVariants.{Word, Close}
 
-unfoldable pub item_at : List ℕ → ℕ → Item
+unfoldable pub item_at : List ℕ → ℕ → Option Item
 item_at list at =
-    cond (faulty (drop at list)) Faulty (cond (eqb (kind (drop at list)) 3) Close (Word (next_place list at)))
+    cond (faulty (drop at list)) None (Some (cond (eqb (kind (drop at list)) 3) Close (Word (next_place list at))))
 
 -- a body has the byte n, n bytes behind it, and no more than n behind these
 unfoldable pub fits : List ℕ → Bool
@@ -26,6 +25,19 @@ passed_rest (suc more) rest =
 
 unfoldable pub passed : List ℕ → List Entry
 passed list = passed_rest (length list) list
+
+-- where the stem of a word stands in a list
+pub data Place : Type 0 where
+  Listed : ℕ → ℕ → Place
+  Unlisted : Place
+
+-- the part of a list that starts and ends there
+abbrev pub LentFrom : Bor (List ℕ) → Place → Option (Bor (List ℕ)) → Type 0
+LentFrom list (Listed start end) (Some part) =
+    (part.now ≡ take (end - start) (drop start list.now)) × (part.ref_ptr ≡ (list.ref_ptr.0, start + list.ref_ptr.1))
+LentFrom list (Listed start end) None = ⊥
+LentFrom list Unlisted (Some part) = ⊥
+LentFrom list Unlisted None = Unit {0}
 
 unfoldable pub is_for : List ℕ → List ℕ → Bool
 is_for body word = fits body && same (word_in body) word

@@ -1,13 +1,12 @@
 -- The search in a list, record by record: what is known after so many of them.
-use Prim.Native.Nat.{ℕ, zero, suc, ◌+◌, ◌≤◌, ◌<◌}
+use Prim.Native.Nat.{ℕ, zero, suc, ◌+◌, ◌≤◌}
 use Rattle.std.specs.Prelude.{◌≡◌, true, false, List, drop}
 use Rattle.std.proofs.Math.Path.{refl}
-use Rattle.std.proofs.Common.{arith, drop_of_length-le}
+use Rattle.std.proofs.Common.{arith}
 use Rattle.std.proofs.Math.ListN.{length}
 use Rattle.records.specs.Framing.{body, cut, next_place}
 use Rattle.records.specs.FramingLaws.{beyond, next_inside}
-use Rattle.lists.specs.Searches.{is_for, search_rest, searched}
-use Rattle.lists.specs.declared.Place.TheVariants.{Listed, Unlisted}
+use Rattle.lists.specs.Searches.{Listed, Unlisted, is_for, search_rest, searched}
 
 -- the search in the whole list is that in what is left from a place on
 pub record State (list word : List ℕ) (at : ℕ) : Type 0 where
@@ -29,18 +28,14 @@ module _ {list word : List ℕ} {at : ℕ} (state : State list word at) where
       go zero left = left
       go (suc steps) left = rw short at left
 
-  pub at_end : length list ≤ at → Unlisted ≡ searched list word
-  unfolding cut
-  at_end past = at_cut (rw (drop_of_length-le list past) refl)
-
-  module _ (inside : at < length list) (whole : cut (drop at list) ≡ false) where
+  module _ (whole : cut (drop at list) ≡ false) where
     pub past_record : is_for (body (drop at list)) word ≡ false → State list word (next_place list at)
     unfolding search_rest next_place
     past_record other = go state.steps state.enough state.left
       where
         go : (steps : ℕ) → length list ≤ at + steps → search_rest steps at (drop at list) word ≡ searched list word
             → State list word (next_place list at)
-        go zero enough left = absurd (omega arith)
+        go zero enough left = absurd (omega (arith, next_inside list at whole))
         go (suc steps) enough left =
             record {
               steps = steps;
@@ -55,5 +50,5 @@ module _ {list word : List ℕ} {at : ℕ} (state : State list word at) where
       where
         go : (steps : ℕ) → length list ≤ at + steps → search_rest steps at (drop at list) word ≡ searched list word
             → Listed (at + (5 + length word)) (next_place list at) ≡ searched list word
-        go zero enough left = absurd (omega arith)
+        go zero enough left = absurd (omega (arith, next_inside list at whole))
         go (suc steps) enough left = rw (whole, is) at left

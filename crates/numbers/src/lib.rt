@@ -8,7 +8,7 @@ pub fn wide(byte: u8) -> usize
     ensures value { result ≡ byte }
     ensures upper_bound { result < 256 }
 {
-    byte as usize
+    usize::from(byte)
 }
 
 // "numbers are little-endian": the number of two bytes.
@@ -16,5 +16,5 @@ pub fn pair(low: u8, high: u8) -> usize
     ensures value { result ≡ low + 256 * high }
     ensures upper_bound { result < 65536 }
 {
-    wide(low) + 256 * wide(high)
+    usize::from(u16::from_le_bytes([low, high]))
 }

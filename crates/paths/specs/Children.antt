@@ -1,6 +1,6 @@
 -- Document 01, "The table", as W-206 amends it: the four numbers of a node, and the child of a node for a letter. Only single letters
 -- are compared.
-use Rattle.std.specs.Prelude.{ℕ, zero, suc, ◌+◌, ◌*◌, cond, List, eqb, ltb, get_or}
+use Rattle.std.specs.Prelude.{ℕ, zero, suc, ◌+◌, ◌*◌, cond, List, eqb, ltb, get_or, Option, Some, None}
 use Rattle.walks.specs.Walk.{Nodes}
 
 -- "Nodes of four 16-bit numbers: letter, first child, count of children, first rule."
@@ -27,6 +27,10 @@ sought (suc count) table one at =
 -- "a child of that letter", 0 for none
 unfoldable pub child : List ℕ → ℕ → ℕ → ℕ
 child table at one = sought (child_count table at) table one (first_child table at)
+
+-- the node that such a number names
+abbrev pub named : ℕ → Option ℕ
+named at = cond (eqb at 0) None (Some at)
 
 -- the nodes that a table's numbers lay out
 abbrev pub nodes_in : List ℕ → Nodes

@@ -3,3 +3,5 @@ pub mod Children
 -- Laws of children, one after another, and of nodes that a table does not have
 pub mod ChildLaws
 pub mod BeyondLaws
+-- Laws of letters that are taken from the last inward
+pub mod LettersLeft

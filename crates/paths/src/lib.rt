@@ -2,45 +2,36 @@
 // where the table has no number, 0 is read, and a node that it does not have holds no rule and has no child.
 #![tactic(auto)]
 
-ghost use Rattle.std.specs.Prelude.{◌≡◌, ◌<◌, get_or};
+ghost use Rattle.std.specs.Prelude.{◌≡◌, ◌<◌, get_or, IfSome};
 ghost use Rattle.paper.specs.Letters.{inward};
 ghost use Rattle.walks.specs.Walk.{deepest as deepest_of, reached, held};
-ghost use Rattle.paths.specs.Children.{child as child_of, nodes_in};
-
-use numbers::wide;
+ghost use Rattle.paths.specs.Children.{child as child_of, named, nodes_in};
 
 // The number at a place of the table.
 pub fn number_at(table: &[u16], place: usize) -> usize
     ensures { (result ≡ get_or table.now place 0) × (result < 65536) }
 {
-    if place < table.len() {
-        table[place] as usize
-    } else {
-        0
-    }
+    table.get(place).map_or(0, |number| usize::from(*number))
 }
 
-// The child of this letter, 0 for none. No more children are looked at than the node has, and none behind a greater letter.
-pub fn child(table: &[u16], parent: usize, letter: usize) -> usize
-    ensures { (result ≡ child_of table.now parent letter) × (result < 131072) }
+// The child of this letter, if the node has one: 01's 0 names none. No more children are looked at than the node has, and none behind a
+// greater letter.
+pub fn child(table: &[u16], parent: usize, letter: usize) -> Option<usize>
+    ensures value { result ≡ named (child_of table.now parent letter) }
+    ensures upper_bound { IfSome result (λ at. at < 131072) }
 {
     if table.len() <= parent {
-        return 0;
+        return None;
     }
-    let mut at = number_at(table, 4 * parent + 1);
-    let mut left = number_at(table, 4 * parent + 2);
-    while 0 < left {
+    let first = number_at(table, 4 * parent + 1);
+    let count = number_at(table, 4 * parent + 2);
+    for at in first..first + count {
         let here = number_at(table, 4 * at);
         if letter <= here {
-            if letter == here {
-                return at;
-            }
-            return 0;
+            return (letter == here && at != 0).then_some(at);
         }
-        at += 1;
-        left -= 1;
     }
-    0
+    None
 }
 
 // The rule that the deepest node passed holds, of those that hold one, when the word's letters are followed from the root.
@@ -52,13 +43,11 @@ pub fn deepest(table: &[u16], root: usize, word: &[u8]) -> usize
     }
     let mut at = root;
     let mut found = number_at(table, 4 * root + 3);
-    let mut left = word.len();
-    while 0 < left {
-        left -= 1;
-        at = child(table, at, wide(word[left]));
-        if at == 0 {
+    for letter in word.iter().rev() {
+        let Some(next) = child(table, at, usize::from(*letter)) else {
             return found;
-        }
+        };
+        at = next;
         let rule = number_at(table, 4 * at + 3);
         if rule != 0 {
             found = rule;
@@ -75,13 +64,11 @@ pub fn held_at(table: &[u16], root: usize, ending: &[u8]) -> usize
         return 0;
     }
     let mut at = root;
-    let mut left = ending.len();
-    while 0 < left {
-        left -= 1;
-        at = child(table, at, wide(ending[left]));
-        if at == 0 {
+    for letter in ending.iter().rev() {
+        let Some(next) = child(table, at, usize::from(*letter)) else {
             return 0;
-        }
+        };
+        at = next;
     }
     number_at(table, 4 * at + 3)
 }

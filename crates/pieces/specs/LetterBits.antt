@@ -1,8 +1,6 @@
--- The bit of 32 in a byte: with it a letter is small, and no other byte becomes a letter from a to z. Shown by one computed
--- test over all 256 bytes.
-use Rattle.std.specs.Prelude.{ℕ, zero, suc, ◌<◌, ◌≡◌, refl, Bool, true, false, not, ◌&&◌, ◌||◌, leb, eqb}
-use Rattle.std.proofs.Common.{sym, ap, ◌∙◌, arith, eqb-true}
-use Rattle.std.specs.Bool.{beq}
+-- The bit of 32 in a byte: with it a letter is small. Shown by one computed test over all 256 bytes.
+use Rattle.std.specs.Prelude.{ℕ, zero, suc, ◌<◌, ◌≡◌, refl, Bool, true, false, not, ◌&&◌, ◌||◌, eqb}
+use Rattle.std.proofs.Common.{ap, ◌∙◌, arith, eqb-true}
 use Rattle.std.specs.Int.Bits.{bit_or}
 use Rattle.std.proofs.lemmas.Bool.{eqb-false}
 use Rattle.pieces.specs.Pieces.{is_letter, lowered}
@@ -23,28 +21,14 @@ every_at test (suc n) all k below = go (every_at test n (and_right (test n) (eve
     go shorter true same = ap test (eqb-true k n same) ∙ and_left (test n) (every test n) all
     go shorter false other = shorter (omega (arith, eqb-false k n other))
 
--- the byte with the bit is from a to z exactly if the byte is a letter, and is then the letter made small
+-- a letter with the bit is the letter made small
 right : ℕ → Bool
-right byte =
-    beq (is_letter byte) (leb 97 (bit_or byte 32) && leb (bit_or byte 32) 122)
-    && (not (is_letter byte) || eqb (bit_or byte 32) (lowered byte))
+right byte = not (is_letter byte) || eqb (bit_or byte 32) (lowered byte)
 
 all_right : every right 256 ≡ true
 unfolding every right is_letter lowered
 all_right = refl
 
-same : (a b : Bool) → beq a b ≡ true → a ≡ b
-same true true is = refl
-same true false is = sym is
-same false true is = is
-same false false is = refl
-
-pub letter_by_bit : (byte : ℕ) → byte < 256 → is_letter byte ≡ (leb 97 (bit_or byte 32) && leb (bit_or byte 32) 122)
-unfolding right
-letter_by_bit byte below = same _ _ (and_left _ _ (every_at right 256 all_right byte below))
-
 pub small_by_bit : (byte : ℕ) → byte < 256 → is_letter byte ≡ true → bit_or byte 32 ≡ lowered byte
 unfolding right
-small_by_bit byte below letter =
-    let second = and_right (beq (is_letter byte) _) _ (every_at right 256 all_right byte below) in
-    eqb-true (bit_or byte 32) (lowered byte) (rw letter at second)
+small_by_bit byte below letter = eqb-true (bit_or byte 32) (lowered byte) (rw letter at (every_at right 256 all_right byte below))

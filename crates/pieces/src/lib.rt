@@ -7,54 +7,35 @@ ghost use Rattle.paper.specs.Words.{all_small, first_other};
 ghost use Rattle.pieces.specs.Pieces.{is_letter, leading};
 ghost use Rattle.pieces.specs.Next.{next_word_at, word_end, NextWord};
 
-// Whether words are made of this byte: A to Z and a to z. With the bit of 32 a letter is small.
+// Whether words are made of this byte: A to Z and a to z.
 fn is_letter(byte: u8) -> bool
     ensures { result ≡ is_letter byte }
 {
-    let small = byte | 32;
-    if small < 97 {
-        return false;
-    }
-    small <= 122
+    byte.is_ascii_alphabetic()
 }
 
 // The place of the first byte outside a to z, or the word's length where there is none.
 pub fn first_other(word: &[u8]) -> usize
     ensures { result ≡ first_other word.now }
 {
-    let mut i = 0;
-    while i < word.len() {
-        let byte = word[i];
-        if byte < 97 {
-            return i;
-        }
-        if 122 < byte {
-            return i;
-        }
-        i += 1;
-    }
-    i
+    let other = word.iter().position(|byte| !byte.is_ascii_lowercase());
+    other.unwrap_or(word.len())
 }
 
 // The offset of the next word, searched from a place as if the text began there; the text's length where none follows.
 pub fn next_word_at(text: &[u8], from: usize) -> usize
     ensures { result ≡ next_word_at text.now from }
 {
-    if text.len() < from {
-        return text.len();
-    }
-    let mut at = from;
-    while at < text.len() {
+    for at in from..text.len() {
         if is_letter(text[at]) {
             return at;
         }
-        at += 1;
     }
-    at
+    text.len()
 }
 
 // The end of the letters that stand from a place on, and whether all of them are small.
-#[derive(Drop)]
+#[derive(Clone, Copy)]
 pub struct Run {
     pub end: usize,
     pub small: bool,
@@ -65,18 +46,18 @@ pub fn word_run(text: &[u8], from: usize) -> Run
     ensures end_value { result.end ≡ word_end text.now from }
     ensures small_value { result.small ≡ all_small (leading (drop from text.now)) }
 {
-    let mut end = from;
     let mut small = true;
-    while end < text.len() {
+    for end in from..text.len() {
         let byte = text[end];
-        if is_letter(byte) {
-            small = small & (96 < byte);
-            end += 1;
-        } else {
+        if !is_letter(byte) {
             return Run { end, small };
         }
+        small &= b'a' <= byte;
     }
-    Run { end, small }
+    Run {
+        end: from.max(text.len()),
+        small,
+    }
 }
 
 // The next word, as a part of the caller's own text; empty where none follows.

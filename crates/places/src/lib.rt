@@ -16,12 +16,10 @@ pub fn put(place: &mut [u8], at: usize, letters: &[u8])
     if place.len() - letters.len() < at {
         return;
     }
-    let mut i = 0;
-    while i < letters.len() {
-        if place[at + i] != letters[i] {
-            place[at + i] = letters[i];
+    for (i, letter) in letters.iter().enumerate() {
+        if place[at + i] != *letter {
+            place[at + i] = *letter;
         }
-        i += 1;
     }
 }
 
@@ -29,12 +27,7 @@ pub fn put(place: &mut [u8], at: usize, letters: &[u8])
 pub fn fill(place: &mut [u8], stem: usize)
     ensures { place.new ≡ take stem place.old ++ spaces (length place.old - stem) }
 {
-    if place.len() <= stem {
-        return;
-    }
-    let mut i = stem;
-    while i < place.len() {
-        place[i] = 32;
-        i += 1;
+    if stem < place.len() {
+        place[stem..].fill(b' ');
     }
 }

@@ -6,7 +6,6 @@
 // an argument over its bound, the program writes the byte 255 and ends.
 #![tactic(auto)]
 
-use requests::input::Start;
 use requests::{input, output};
 use requests_sheets::{sheet, table, written};
 use requests_words::{list, text, vocabulary, word};
@@ -23,7 +22,8 @@ fn answered(from: &mut impl Read, to: &mut impl Write, kind: u8) -> io::Result<b
         5 => table::answered_translation(from, to),
         6 => table::answered_run(from, to),
         7 => written::answered(from, to),
-        8 | 9 => list::answered_word(from, to, kind),
+        8 => list::answered_lookup(from, to),
+        9 => list::answered_word(from, to),
         10 => list::answered_text(from, to),
         11 => vocabulary::answered(from, to),
         _ => Ok(false),
@@ -33,27 +33,26 @@ fn answered(from: &mut impl Read, to: &mut impl Write, kind: u8) -> io::Result<b
 // Answers the next request, and says whether to go on. The answer is flushed, since who sent the
 // request may wait for it before sending another.
 fn went_on(from: &mut impl Read, to: &mut impl Write) -> io::Result<bool> {
-    match input::first_byte(from)? {
-        Start::With(kind) => {
-            let is_answered = answered(from, to, kind)?;
-            if !is_answered {
-                output::byte(to, 255)?;
-            }
-            to.flush()?;
-            Ok(is_answered)
-        }
-        Start::Ended => Ok(false),
+    let Some(kind) = input::first_byte(from)? else {
+        return Ok(false);
+    };
+    let is_answered = answered(from, to, kind)?;
+    if !is_answered {
+        output::byte(to, 255)?;
     }
+    to.flush()?;
+    Ok(is_answered)
 }
 
-// A proved loop has to end, and nothing says that the input does. So the requests are counted down
-// from a number that no run uses up.
+// A proved loop has to end, and nothing says that the input does. So the requests are counted
+// to a number that no run uses up.
 fn main(rt: HostRuntime) -> io::Result<()> {
     let mut from = rt.stdin();
     let mut to = rt.stdout();
-    let mut left = u64::MAX;
-    while left > 0 && went_on(&mut from, &mut to)? {
-        left -= 1;
+    for _ in 0..u64::MAX {
+        if !went_on(&mut from, &mut to)? {
+            break;
+        }
     }
     Ok(())
 }

@@ -7,11 +7,12 @@ ghost use Rattle.paper.specs.Shipped.{group_1a, group_1b, follow_up, group_1c, g
 ghost use Rattle.paper.specs.Words.{taken, judged, first_other};
 ghost use Rattle.paper.specs.Noted.{Noted};
 ghost use Rattle.groups.specs.Reads.{leaves, Cut, CutOpens, Stands, Written};
-ghost use Rattle.readings.specs.Steps.{Outside, WrittenOpened, leaves_opened, leaves_last, ReadStands};
+ghost use Rattle.readings.specs.Steps.{WrittenOpened, leaves_opened, leaves_last, ReadStands};
 
-use blocks::{block_2, block_3, block_4, kept};
+use blocks::{block_2, block_3, block_4};
 use conditions::letter_at;
 use groups::{Left, cut_by, cut_free, cut_pair, write_by, write_pair};
+use rules::{Group, table};
 
 // Its rules have no condition, so that no state is asked for.
 fn step_1a(word: &[u8]) -> usize
@@ -20,8 +21,8 @@ fn step_1a(word: &[u8]) -> usize
     if letter_at(word, 0) != b's' {
         return word.len();
     }
-    let rules = rules::group_1a();
-    cut_free(word, 4, &rules)
+    let rules = table(Group::Step1a);
+    cut_free(word, 4, rules)
 }
 
 fn cut_1b(word: &[u8], states: &[u8]) -> Left
@@ -30,8 +31,8 @@ fn cut_1b(word: &[u8], states: &[u8]) -> Left
 {
     let last = letter_at(word, 0);
     if (last == b'd') | (last == b'g') {
-        let rules = rules::group_1b();
-        return cut_by(word, states, 0, 3, &rules);
+        let rules = table(Group::Step1b);
+        return cut_by(word, states, 0, 3, rules);
     }
     Left {
         len: word.len(),
@@ -45,8 +46,8 @@ fn follow(word: &mut [u8], states: &mut [u8], len: usize) -> usize
     requires word_in_bounds { length (leaves follow_up (take len word.old)) ≤ length word.old }
     ensures { Written follow_up (take len word.old) word.new states.new result }
 {
-    let rules = rules::follow_up();
-    write_pair(word, states, len, 5, &rules)
+    let rules = table(Group::FollowUp);
+    write_pair(word, states, len, 5, rules)
 }
 
 fn step_1b(word: &mut [u8], states: &mut [u8], len: usize) -> usize
@@ -69,17 +70,8 @@ fn step_1c(word: &mut [u8], states: &mut [u8], len: usize) -> usize
     if letter_at(&word[..len], 0) != b'y' {
         return len;
     }
-    let rules = rules::group_1c();
-    write_by(word, states, len, 0, 1, &rules)
-}
-
-fn within_2(word: &mut [u8], states: &mut [u8], len: usize, from: usize, to: usize) -> usize
-    requires stands { Stands word.old states.old len × (length (leaves group_2 (take len word.old)) ≤ length word.old) }
-    requires outside { Outside group_2 from to 20 (take len word.old) }
-    ensures { Written group_2 (take len word.old) word.new states.new result }
-{
-    let rules = rules::group_2();
-    write_by(word, states, len, from, to, &rules)
+    let rules = table(Group::Step1c);
+    write_by(word, states, len, 0, 1, rules)
 }
 
 fn step_2(word: &mut [u8], states: &mut [u8], len: usize) -> usize
@@ -91,20 +83,11 @@ fn step_2(word: &mut [u8], states: &mut [u8], len: usize) -> usize
         return len;
     }
     let block = block_2(letter_at(&word[..len], 1));
-    if kept(&word[..len], block.lasts, block.thirds) {
-        return within_2(word, states, len, block.from, block.to);
+    if !block.keeps(&word[..len]) {
+        return len;
     }
-    len
-}
-
-fn within_3(word: &[u8], states: &[u8], from: usize, to: usize) -> usize
-    requires noted { Noted word.now states.now }
-    requires outside { Outside group_3 from to 7 word.now }
-    ensures { Cut group_3 word.now result }
-{
-    let rules = rules::group_3();
-    let left = cut_by(word, states, from, to, &rules);
-    left.len
+    let rules = table(Group::Step2);
+    write_by(word, states, len, block.from, block.to, rules)
 }
 
 fn step_3(word: &[u8], states: &[u8]) -> usize
@@ -115,20 +98,11 @@ fn step_3(word: &[u8], states: &[u8]) -> usize
         return word.len();
     }
     let block = block_3(letter_at(word, 1));
-    if kept(word, block.lasts, block.thirds) {
-        return within_3(word, states, block.from, block.to);
+    if !block.keeps(word) {
+        return word.len();
     }
-    word.len()
-}
-
-fn within_4(word: &[u8], states: &[u8], from: usize, to: usize) -> usize
-    requires noted { Noted word.now states.now }
-    requires outside { Outside group_4 from to 19 word.now }
-    ensures { Cut group_4 word.now result }
-{
-    let rules = rules::group_4();
-    let left = cut_by(word, states, from, to, &rules);
-    left.len
+    let rules = table(Group::Step3);
+    cut_by(word, states, block.from, block.to, rules).len
 }
 
 fn step_4(word: &[u8], states: &[u8]) -> usize
@@ -139,10 +113,11 @@ fn step_4(word: &[u8], states: &[u8]) -> usize
         return word.len();
     }
     let block = block_4(letter_at(word, 1));
-    if kept(word, block.lasts, block.thirds) {
-        return within_4(word, states, block.from, block.to);
+    if !block.keeps(word) {
+        return word.len();
     }
-    word.len()
+    let rules = table(Group::Step4);
+    cut_by(word, states, block.from, block.to, rules).len
 }
 
 // Its two rules have the same ending.
@@ -153,8 +128,8 @@ fn step_5a(word: &[u8], states: &[u8]) -> usize
     if letter_at(word, 0) != b'e' {
         return word.len();
     }
-    let rules = rules::group_5a();
-    cut_pair(word, states, 2, &rules)
+    let rules = table(Group::Step5a);
+    cut_pair(word, states, 2, rules)
 }
 
 fn step_5b(word: &[u8], states: &[u8]) -> usize
@@ -165,9 +140,8 @@ fn step_5b(word: &[u8], states: &[u8]) -> usize
     if letter_at(word, 0) != b'l' {
         return word.len();
     }
-    let rules = rules::group_5b();
-    let left = cut_by(word, states, 0, 1, &rules);
-    left.len
+    let rules = table(Group::Step5b);
+    cut_by(word, states, 0, 1, rules).len
 }
 
 // How many letters the last four groups leave, which only cut.
@@ -195,7 +169,7 @@ fn read_by(word: &mut [u8], states: &mut [u8]) -> usize
 }
 
 // The place of the first byte outside a to z, or the word's length; and how many letters the groups leave.
-#[derive(Drop)]
+#[derive(Clone, Copy)]
 pub struct WordRead {
     pub other: usize,
     pub len: usize,

@@ -1,23 +1,22 @@
 -- The record at a place, case by case of its frame, whatever is told of each kind.
 use Prim.Native.Nat.{ℕ, ◌-◌}
-use Rattle.std.specs.Prelude.{◌≡◌, true, not, ◌||◌, List, eqb, take, drop}
+use Rattle.std.specs.Prelude.{◌≡◌, true, not, ◌||◌, Option, None, List, eqb, take, drop}
 use Rattle.std.proofs.Common.{sym, ◌∙◌, arith}
 use borrow.Author.Tests.{eq-eqb, ne_eqb, eqb-true}
 use Rattle.std.proofs.Math.ListN.{length, length-drop}
 use Rattle.paper.specs.TestLaws.{test_ext}
 use Rattle.records.specs.declared.Record.{Record}
-use Rattle.records.specs.declared.Record.TheVariants.{Faulty}
 use Rattle.records.specs.Framing.{body_length, record_length, after, cut, body_place, next_place}
 use Rattle.records.specs.FramingLaws.{FramedAt, length_after}
 use Rattle.records.specs.Records.{faulty_end, by_kind}
 use Rattle.records.specs.RecordAnswers.{by_frame}
 use Rattle.records.specs.RecordLaws.{at_group, at_rule, at_end}
 
-module _ (of_group of_rule : ℕ → List ℕ → Record) (of_end : List ℕ → Record) (sheet : List ℕ) (at : ℕ) where
-  abbrev told : Record
+module _ (of_group of_rule : ℕ → List ℕ → Option Record) (of_end : List ℕ → Option Record) (sheet : List ℕ) (at : ℕ) where
+  abbrev told : Option Record
   told = by_frame of_group of_rule of_end sheet at
 
-  pub frame_cut : cut (drop at sheet) ≡ true → Faulty ≡ told
+  pub frame_cut : cut (drop at sheet) ≡ true → None ≡ told
   frame_cut short = simp short
 
   module _ {k b next : ℕ} (is : FramedAt sheet at k b next) where
@@ -30,7 +29,7 @@ module _ (of_group of_rule : ℕ → List ℕ → Record) (of_end : List ℕ →
     pub frame_end : k ≡ 3 → of_end (drop at sheet) ≡ told
     frame_end three = rw (is.whole, at_end _ _ _ _ _ (sym is.kind_is ∙ three))
 
-    pub frame_other : (k ≡ 1 → ⊥) → (k ≡ 2 → ⊥) → (k ≡ 3 → ⊥) → Faulty ≡ told
+    pub frame_other : (k ≡ 1 → ⊥) → (k ≡ 2 → ⊥) → (k ≡ 3 → ⊥) → None ≡ told
     unfolding by_kind
     frame_other not_one not-two not_three =
         simp (is.whole, ← is.kind_is, ne_eqb k 1 not_one, ne_eqb k 2 not-two, ne_eqb k 3 not_three)

@@ -1,8 +1,8 @@
 -- Document 01, "The sheet": the frame of a record, whatever its kind. A record is read from the bytes that remain where it
 -- starts, and written as the bytes of its kind and its body.
-use Rattle.std.specs.Prelude.{ℕ, ◌+◌, ◌*◌, ◌-◌, ◌/◌, ◌%◌, Bool, cond, ◌||◌, List, [], ◌∷◌, ◌++◌, ltb, length, get_or, take, drop}
+use Rattle.std.specs.Prelude.{ℕ, ◌+◌, ◌*◌, ◌-◌, ◌/◌, ◌%◌, Bool, cond, ◌||◌, Option, Some, None}
+use Rattle.std.specs.Prelude.{List, [], ◌∷◌, ◌++◌, ltb, length, get_or, take, drop}
 use Rattle.records.specs.declared.framing.Frame.{Frame}
-use Rattle.records.specs.declared.framing.Frame.TheVariants.{Whole, Cut}
 
 -- "numbers are little-endian": the two-byte number that starts at this place
 unfoldable pub number : ℕ → List ℕ → ℕ
@@ -36,8 +36,10 @@ body_place at = at + 4
 unfoldable pub next_place : List ℕ → ℕ → ℕ
 next_place bytes at = at + record_length (drop at bytes)
 
-unfoldable pub frame_at : List ℕ → ℕ → Frame
-frame_at bytes at = cond (cut (drop at bytes)) Cut (Whole (kind (drop at bytes)) (body_place at) (next_place bytes at))
+unfoldable pub frame_at : List ℕ → ℕ → Option Frame
+frame_at bytes at =
+    cond (cut (drop at bytes)) None
+    (Some (record { kind = kind (drop at bytes); body = body_place at; next = next_place bytes at }))
 
 -- a two-byte number, and the bytes of a record
 unfoldable pub two : ℕ → List ℕ

@@ -1,5 +1,6 @@
 -- Laws of frames: what is read from the bytes of a record, that a record is the bytes of what is read, and where it stands.
-use Rattle.std.specs.Prelude.{ℕ, ◌+◌, ◌*◌, ◌-◌, ◌/◌, ◌%◌, ◌≤◌, ◌<◌, ◌≡◌, true, false, List, [], ◌∷◌, ◌++◌, ltb, take, drop}
+use Rattle.std.specs.Prelude.{ℕ, ◌+◌, ◌*◌, ◌-◌, ◌/◌, ◌%◌, ◌≤◌, ◌<◌, ◌≡◌, true, false}
+use Rattle.std.specs.Prelude.{Option, Some, None, List, [], ◌∷◌, ◌++◌, ltb, take, drop}
 use Rattle.std.proofs.Math.Path.{refl, sym}
 use Rattle.std.proofs.Common.{ap, subst, ◌∙◌, append_assoc, length-take, take-append-drop}
 use native.Mathlib.Omega.{arith}
@@ -10,7 +11,6 @@ use Rattle.paper.specs.TestLaws.{by_test, neither_left, neither_right}
 use Rattle.records.specs.Framing.{number, body_length, kind, body, record_length, after, cut, body_place, next_place, frame_at}
 use Rattle.records.specs.Framing.{two, record_of}
 use Rattle.records.specs.declared.framing.Frame.{Frame}
-use Rattle.records.specs.declared.framing.Frame.TheVariants.{Whole, Cut}
 
 -- ## The bytes of a record, read
 module _ (k : ℕ) (b more : List ℕ) where
@@ -155,9 +155,9 @@ pub record FramedAt (bytes : List ℕ) (at k b next : ℕ) : Type 0 where
   pub inside : next ≤ length bytes
   pub body_is : take (next - b) (drop b bytes) ≡ body (drop at bytes)
 
-abbrev Framed : List ℕ → ℕ → Frame → Type 0
-Framed bytes at (Whole k b next) = FramedAt bytes at k b next
-Framed bytes at Cut = cut (drop at bytes) ≡ true
+abbrev Framed : List ℕ → ℕ → Option Frame → Type 0
+Framed bytes at (Some frame) = FramedAt bytes at frame.kind frame.body frame.next
+Framed bytes at None = cut (drop at bytes) ≡ true
 
 framed_by : (bytes : List ℕ) (at : ℕ) → Framed bytes at (frame_at bytes at)
 unfolding frame_at
@@ -175,5 +175,5 @@ framed_by bytes at =
       body_is = body_there bytes at;
     }))
 
-pub framed : (bytes : List ℕ) (at : ℕ) (frame : Frame) → frame_at bytes at ≡ frame → Framed bytes at frame
+pub framed : (bytes : List ℕ) (at : ℕ) (frame : Option Frame) → frame_at bytes at ≡ frame → Framed bytes at frame
 framed bytes at frame is = subst (Framed bytes at) is (framed_by bytes at)

@@ -1,4 +1,4 @@
--- Any two readers that the contract of `made` allows are equal: it gives the two fields by an equation each. The other
+-- Any two readers that the contract of `Reader::new` allows are equal: it gives the two fields by an equation each. The other
 -- contracts of this crate are an equation, which `settled` of `paper` settles.
 use Rattle.std.specs.Prelude.{ℕ, ◌≡◌, List}
 use Rattle.std.specs.Borrow.{Bor}

@@ -1,5 +1,5 @@
 -- What the record at a place of a sheet says to a caller: where the next record starts, and of a rule where its letters stand.
-use Rattle.std.specs.Prelude.{ℕ, ◌+◌, ◌-◌, ◌≤◌, ◌<◌, ◌≡◌, refl, true, cond, eqb, length, drop}
+use Rattle.std.specs.Prelude.{ℕ, ◌+◌, ◌-◌, ◌≤◌, ◌<◌, ◌≡◌, refl, true, cond, Option, Some, None, eqb, length, drop}
 use Rattle.std.proofs.Common.{sym, subst, ◌∙◌, take-take}
 use Rattle.std.proofs.Math.Path.{ap}
 use mathlib.Core.List.{List}
@@ -18,7 +18,7 @@ use Rattle.records.specs.RecordLaws.{GroupHere, RuleHere, EndHere, Alone, a_faul
 use Rattle.records.specs.RecordLaws.{at_group, at_rule, at_end}
 use Rattle.records.specs.RuleLaws.{Sound, sound, length_ending, length-replacement}
 use Rattle.records.specs.declared.Record.{Record}
-use Rattle.records.specs.declared.Record.TheVariants.{Group as GroupRecord, Rule as RuleRecord, End, Faulty}
+use Rattle.records.specs.declared.Record.TheVariants.{Group as GroupRecord, Rule as RuleRecord, End}
 
 -- a group stands at a place
 pub record GroupAt (sheet : List ℕ) (at number next : ℕ) : Type 0 where
@@ -136,13 +136,13 @@ module _ (sheet : List ℕ) (at : ℕ) where
 
   -- ## Any record
   -- by the answer
-  abbrev Here : Record → Type 0
-  Here (GroupRecord number next) = GroupAt sheet at number next
-  Here (RuleRecord c a o start middle next) = RuleAt sheet at c a o start middle next
-  Here End = EndHere rest
-  Here Faulty = faulty_alone rest ≡ true
+  abbrev Here : Option Record → Type 0
+  Here (Some (GroupRecord number next)) = GroupAt sheet at number next
+  Here (Some (RuleRecord r)) = RuleAt sheet at r.condition r.action r.opens r.start r.middle r.next
+  Here (Some End) = EndHere rest
+  Here None = faulty_alone rest ≡ true
 
-  fault_at : faulty_alone rest ≡ true → record_at sheet at ≡ Faulty
+  fault_at : faulty_alone rest ≡ true → record_at sheet at ≡ None
   unfolding faulty_alone record_at by_kind group_record rule_record end_record
   fault_at fault =
       by_test (cut rest) (λ short. simp short)
@@ -162,5 +162,5 @@ module _ (sheet : List ℕ) (at : ℕ) where
   here_by (a_rule here) = rw (here.whole, at_rule _ _ _ _ _ here.is_rule, here.sound) (rule_at_lem here)
   here_by (an_end here) = rw (here.whole, at_end _ _ _ _ _ here.is_end, here.sound) here
 
-  pub record_here : (answer : Record) → record_at sheet at ≡ answer → Here answer
+  pub record_here : (answer : Option Record) → record_at sheet at ≡ answer → Here answer
   record_here answer is = subst Here is (here_by (alone rest))

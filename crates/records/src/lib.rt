@@ -12,63 +12,51 @@ use framing::{Frame, faulty_end, frame_at};
 use numbers::pair;
 use rules::rule_in;
 
-// What a record holds, with places in the sheet: S1 of a rule stands from `start` to `middle`, S2 from there to `next`, where the
-// next record starts.
-#[derive(Drop)]
-pub enum Record {
-    Group {
-        gate: usize,
-        next: usize,
-    },
-    Rule {
-        condition: u8,
-        action: u8,
-        opens: u8,
-        start: usize,
-        middle: usize,
-        next: usize,
-    },
-    End,
-    Faulty,
+// What the record of a rule holds, with places in the sheet: S1 stands from `start` to `middle`, S2 from there to `next`, where
+// the next record starts.
+#[derive(Clone, Copy)]
+pub struct RuleRecord {
+    pub condition: u8,
+    pub action: u8,
+    pub opens: u8,
+    pub start: usize,
+    pub middle: usize,
+    pub next: usize,
 }
 
-// A group's record, whose body starts at this place.
-fn group_in(body: &[u8], place: usize) -> Record
+// What a record holds.
+#[derive(Clone, Copy)]
+pub enum Record {
+    Group { gate: usize, next: usize },
+    Rule(RuleRecord),
+    End,
+}
+
+// A group's record, whose body starts at this place. None where it is faulty.
+fn group_in(body: &[u8], place: usize) -> Option<Record>
     requires { place + length body.now < 18446744073709551616 }
     ensures { result ≡ group_record place body.now }
 {
-    if body.len() != 2 {
-        return Record::Faulty;
-    }
-    let gate = pair(body[0], body[1]);
+    let [low, high] = *body else {
+        return None;
+    };
+    let gate = pair(low, high);
     if gate > 1 {
-        return Record::Faulty;
+        return None;
     }
     let next = place + body.len();
-    Record::Group { gate, next }
+    Some(Record::Group { gate, next })
 }
 
-// The record that starts at this place of the sheet.
-pub fn record_at(sheet: &[u8], at: usize) -> Record
+// The record that starts at this place of the sheet. None where it is faulty.
+pub fn record_at(sheet: &[u8], at: usize) -> Option<Record>
     ensures { result ≡ record_at sheet.now at }
 {
-    let frame = frame_at(sheet, at);
-    match frame {
-        Frame::Cut => Record::Faulty,
-        Frame::Whole { kind, body, next } => {
-            if kind == 1 {
-                return group_in(&sheet[body..next], body);
-            }
-            if kind == 2 {
-                return rule_in(&sheet[body..next], body);
-            }
-            if kind != 3 {
-                return Record::Faulty;
-            }
-            if faulty_end(sheet, body, next) {
-                return Record::Faulty;
-            }
-            Record::End
-        }
+    let Frame { kind, body, next } = frame_at(sheet, at)?;
+    match kind {
+        1 => group_in(&sheet[body..next], body),
+        2 => rule_in(&sheet[body..next], body),
+        3 if !faulty_end(sheet, body, next) => Some(Record::End),
+        _ => None,
     }
 }

@@ -5,29 +5,31 @@ ghost use Rattle.records.specs.RecordAnswers.{record_at};
 
 use crate::{Record, record_at};
 
-#[derive(Drop)]
+#[derive(Clone, Copy)]
 pub struct Reader<'a> {
     pub sheet: &'a [u8],
     pub at: usize,
 }
 
-// A reader of this sheet, at this place.
-pub fn made<'a>(sheet: &'a [u8], at: usize) -> Reader<'a>
-    ensures { (result.sheet ≡ sheet.entry) × (result.at ≡ at) }
-{
-    Reader { sheet, at }
-}
+impl<'a> Reader<'a> {
+    // A reader of this sheet, at this place.
+    pub fn new(sheet: &'a [u8], at: usize) -> Self
+        ensures { (result.sheet ≡ sheet.entry) × (result.at ≡ at) }
+    {
+        Reader { sheet, at }
+    }
 
-// The record at the reader's place.
-pub fn next<'a>(reader: Reader<'a>) -> Record
-    ensures { result ≡ record_at reader.entry.sheet.now reader.entry.at }
-{
-    record_at(reader.sheet, reader.at)
+    // The record at the reader's place. None where it is faulty.
+    pub fn record(self) -> Option<Record>
+        ensures { result ≡ record_at self.entry.sheet.now self.entry.at }
+    {
+        record_at(self.sheet, self.at)
+    }
 }
 
 // The record at a place of a sheet, drawn by a reader. Its callers need not know of the reader.
-pub fn draw(sheet: &[u8], at: usize) -> Record
+pub fn draw(sheet: &[u8], at: usize) -> Option<Record>
     ensures { result ≡ record_at sheet.now at }
 {
-    next(made(sheet, at))
+    Reader::new(sheet, at).record()
 }

@@ -1,11 +1,10 @@
 // The body of a rule: "bytes for condition, action, opens, length n of S1; then n letters of S1; the rest is S2".
 ghost use Rattle.std.specs.Prelude.{◌≡◌, ◌||◌, ◌+◌, ◌<◌, ltb, length};
 ghost use Rattle.records.specs.Records.{ending, outside};
-ghost use Rattle.records.specs.RecordAnswers.{rule_record};
+ghost use Rattle.records.specs.RecordAnswers.{rule_record, rule_told};
 
-use crate::Record;
+use crate::{Record, RuleRecord};
 use bounds::{above, faulty_action};
-use numbers::wide;
 
 // Some byte is outside a to z.
 fn has_other(bytes: &[u8]) -> bool
@@ -28,51 +27,63 @@ fn faulty_letters(s1: &[u8], s2: &[u8]) -> bool
 pub fn ending_in(body: &[u8]) -> &[u8]
     ensures { result.now ≡ ending body.now }
 {
-    let len = body.len();
-    if len < 4 {
-        return &body[..0];
+    let [_, _, _, n, ref letters @ ..] = *body else {
+        return &[];
+    };
+    let n = usize::from(n);
+    if letters.len() < n {
+        return letters;
     }
-    let n = wide(body[3]);
-    if len - 4 < n {
-        return &body[4..];
-    }
-    let middle = 4 + n;
-    &body[4..middle]
+    &letters[..n]
 }
 
-// A rule's record, whose body starts at this place.
-pub(crate) fn rule_in(body: &[u8], place: usize) -> Record
+impl RuleRecord {
+    // The numbers of a rule's body that starts at this place, and where its letters stand: nothing is judged. None where the body
+    // ends before its numbers do, or before S1 does.
+    pub fn read(body: &[u8], place: usize) -> Option<RuleRecord>
+        requires { place + length body.now < 18446744073709551616 }
+        ensures { result ≡ rule_told place body.now }
+    {
+        let [condition, action, opens, n, ..] = *body else {
+            return None;
+        };
+        let n = usize::from(n);
+        let end = 4 + n;
+        if body.len() < end {
+            return None;
+        }
+        let start = place + 4;
+        let middle = place + end;
+        let next = place + body.len();
+        Some(RuleRecord {
+            condition,
+            action,
+            opens,
+            start,
+            middle,
+            next,
+        })
+    }
+}
+
+// A rule's record, whose body starts at this place. None where it is faulty.
+pub(crate) fn rule_in(body: &[u8], place: usize) -> Option<Record>
     requires { place + length body.now < 18446744073709551616 }
     ensures { result ≡ rule_record place body.now }
 {
-    if body.len() < 4 {
-        return Record::Faulty;
+    let rule = RuleRecord::read(body, place)?;
+    let (s1, s2) = body[4..].split_at(rule.middle - rule.start);
+    if above(
+        rule.condition,
+        rule.action,
+        rule.opens,
+        s1.len(),
+        rule.middle,
+        rule.next,
+    ) || faulty_letters(s1, s2)
+        || faulty_action(rule.condition, rule.action, s1.len(), s2.len())
+    {
+        return None;
     }
-    let condition = body[0];
-    let action = body[1];
-    let opens = body[2];
-    let n = wide(body[3]);
-    let end = 4 + n;
-    if above(condition, action, opens, n, end, body.len()) {
-        return Record::Faulty;
-    }
-    let s1 = &body[4..end];
-    let s2 = &body[end..];
-    if faulty_letters(s1, s2) {
-        return Record::Faulty;
-    }
-    if faulty_action(condition, action, s1.len(), s2.len()) {
-        return Record::Faulty;
-    }
-    let start = place + 4;
-    let middle = place + end;
-    let next = place + body.len();
-    Record::Rule {
-        condition,
-        action,
-        opens,
-        start,
-        middle,
-        next,
-    }
+    Some(Record::Rule(rule))
 }

@@ -1,5 +1,6 @@
 -- What a loop over a table keeps: one number more is two bytes more.
-use Rattle.std.proofs.Common.{◌≡◌, ℕ, ◌+◌, ◌*◌, ◌/◌, ◌%◌, ◌<◌, ◌≤◌, List, [], ◌∷◌, ◌++◌, length, take, get_or, refl, sym, ap, ◌∙◌, append_assoc, arith, length-set}
+use Rattle.std.proofs.Common.{◌≡◌, ℕ, ◌+◌, ◌*◌, ◌/◌, ◌%◌, ◌<◌, ◌≤◌, List, [], ◌∷◌, ◌++◌, length, take, get_or}
+use Rattle.std.proofs.Common.{refl, sym, ap, ◌∙◌, append_assoc, arith, length-set}
 use Rattle.std.proofs.Math.ListN.{set}
 use Rattle.std.proofs.lemmas.Grind.{take-set_at}
 use Rattle.std.proofs.lemmas.List.{take_more, take_more_set}
@@ -16,7 +17,8 @@ coded_table-append (n ∷ numbers) more = ap (λ bytes. n % 256 ∷ n / 256 % 25
 -- ## Numbers written to a space
 
 pub one_more : (numbers : List ℕ) (i : ℕ) → i < length numbers
-    → coded_table (take (i + 1) numbers) ≡ coded_table (take i numbers) ++ (get_or numbers i 0 % 256 ∷ get_or numbers i 0 / 256 % 256 ∷ [])
+    → coded_table (take (i + 1) numbers)
+    ≡ coded_table (take i numbers) ++ (get_or numbers i 0 % 256 ∷ get_or numbers i 0 / 256 % 256 ∷ [])
 one_more numbers i within =
     ap coded_table (take_more numbers i 0 within) ∙ coded_table-append (take i numbers) (get_or numbers i 0 ∷ [])
 
@@ -60,6 +62,7 @@ pub one_read : (space bytes : List ℕ) (i n : ℕ) → i < length space → 2 *
     → coded_table (take (i + 1) (set space i n)) ≡ take (2 * (i + 1)) bytes
 one_read space bytes i n within fits small_low small_high is before =
     one_put space i n within
-    ∙ ap (λ pair. coded_table (take i space) ++ pair) (same_pair n (get_or bytes (2 * i) 0) (get_or bytes (2 * i + 1) 0) small_low small_high is)
+    ∙ ap (λ pair. coded_table (take i space) ++ pair)
+    (same_pair n (get_or bytes (2 * i) 0) (get_or bytes (2 * i + 1) 0) small_low small_high is)
     ∙ ap (λ front. front ++ (get_or bytes (2 * i) 0 ∷ get_or bytes (2 * i + 1) 0 ∷ [])) before
     ∙ sym (two_taken bytes i fits)

@@ -1,14 +1,13 @@
 -- What stood in an input where a part of a request was looked for, by the bytes that were left before and after.
-use Rattle.std.specs.Prelude.{◌≡◌, ℕ, ◌*◌, ◌%◌, ◌<◌, ◌⊎◌, Option, List, [], ◌∷◌, ◌++◌, length}
+use Rattle.std.specs.Prelude.{◌≡◌, ℕ, ◌*◌, ◌%◌, ◌<◌, ◌⊎◌, Option, Some, None}
+use Rattle.std.specs.Prelude.{List, [], ◌∷◌, ◌++◌, length}
 use Rattle.std.specs.Io.KnownBytes.{Consumes, IsAtEnd}
 use Rattle.requests.specs.Parts.{number_of}
-use Rattle.requests.specs.declared.input.Start.{Start}
-use Rattle.requests.specs.declared.input.Start.TheVariants.{With, Ended}
 
 -- a first byte, or nothing
-abbrev pub TakesStart : Start → Option (List ℕ) → Option (List ℕ) → Type 0
-TakesStart (With kind) old new = Consumes old new (kind ∷ [])
-TakesStart Ended old new = IsAtEnd old
+abbrev pub TakesStart : Option ℕ → Option (List ℕ) → Option (List ℕ) → Type 0
+TakesStart (Some kind) old new = Consumes old new (kind ∷ [])
+TakesStart None old new = IsAtEnd old
 
 -- a number in four bytes
 abbrev pub TakesNumber : ℕ → Option (List ℕ) → Option (List ℕ) → Type 0

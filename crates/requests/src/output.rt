@@ -25,13 +25,7 @@ pub fn reply<W: Write>(to: &mut W, returned: u8, value: usize) -> io::Result<()>
 pub fn number<W: Write>(to: &mut W, n: usize) -> io::Result<()>
     ensures { OnOk result (Appends (W.contents to.old) (W.contents to.new) (coded n)) }
 {
-    let four = [
-        (n % 256) as u8,
-        (n / 256 % 256) as u8,
-        (n / 65536 % 256) as u8,
-        (n / 16777216 % 256) as u8,
-    ];
-    to.write_all(&four)
+    to.write_all(&n.to_le_bytes()[..4])
 }
 
 pub fn bytes<W: Write>(to: &mut W, place: &[u8]) -> io::Result<()>
@@ -54,16 +48,11 @@ fn spread(numbers: &[u16], space: &mut [u8]) -> usize
     ensures in_space { IsPrefixLen result space.new }
     ensures value { take result space.new ≡ coded_table (take (length space.new / 2) numbers.now) }
 {
-    let mut i = 0;
-    while i < numbers.len() {
-        let at = 2 * i;
-        if space.len() < at + 2 {
-            return at;
-        }
-        let n = numbers[i];
-        space[at] = (n % 256) as u8;
-        space[at + 1] = (n / 256 % 256) as u8;
-        i += 1;
+    let count = numbers.len().min(space.len() / 2);
+    for i in 0..count {
+        let [low, high] = numbers[i].to_le_bytes();
+        space[2 * i] = low;
+        space[2 * i + 1] = high;
     }
-    2 * i
+    2 * count
 }

@@ -6,12 +6,10 @@ use std::io::{Read, Write};
 // Reads the sheet, answers, and says whether the request was whole. A sheet may have 16,384 bytes.
 pub fn answered(from: &mut impl Read, to: &mut impl Write) -> io::Result<bool> {
     let mut space = [0u8; 16384];
-    let sheet = input::read(from, &mut space)?;
-    if !sheet.whole {
+    let Some(length) = input::read(from, &mut space)? else {
         return Ok(false);
-    }
-    let length = sheet.length;
-    let reply = answers::of_check(sheets::check(&space[..length]));
+    };
+    let reply = answers::sheet_in_numbers(sheets::check(&space[..length]));
     output::reply(to, reply.number, reply.value)?;
     Ok(true)
 }

@@ -7,23 +7,19 @@ use std::io::{Read, Write};
 // Reads the arguments, answers, and says whether the request was whole. A sheet may have 16,384 bytes, a table 16,384 numbers.
 pub fn answered_translation(from: &mut impl Read, to: &mut impl Write) -> io::Result<bool> {
     let mut sheet_space = [0u8; 16384];
-    let sheet = input::read(from, &mut sheet_space)?;
-    if !sheet.whole {
+    let Some(size) = input::read(from, &mut sheet_space)? else {
         return Ok(false);
-    }
+    };
     let mut table_space = [0u16; 16384];
-    let table = input::read_table(from, &mut table_space)?;
-    if !table.whole {
+    let Some(count) = input::read_table(from, &mut table_space)? else {
         return Ok(false);
-    }
-    let size = sheet.length;
-    let count = table.length;
+    };
     answer_translation(to, &sheet_space[..size], &mut table_space[..count])?;
     Ok(true)
 }
 
 fn answer_translation(to: &mut impl Write, sheet: &[u8], table: &mut [u16]) -> io::Result<()> {
-    let reply = answers::of_translation(translations::translate(sheet, table));
+    let reply = answers::in_numbers(translations::translate(sheet, table));
     output::reply(to, reply.number, reply.value)?;
     output::table(to, table)
 }
@@ -31,23 +27,17 @@ fn answer_translation(to: &mut impl Write, sheet: &[u8], table: &mut [u16]) -> i
 // A word may have 4,096 bytes.
 pub fn answered_run(from: &mut impl Read, to: &mut impl Write) -> io::Result<bool> {
     let mut sheet_space = [0u8; 16384];
-    let sheet = input::read(from, &mut sheet_space)?;
-    if !sheet.whole {
+    let Some(size) = input::read(from, &mut sheet_space)? else {
         return Ok(false);
-    }
+    };
     let mut table_space = [0u16; 16384];
-    let table = input::read_table(from, &mut table_space)?;
-    if !table.whole {
+    let Some(count) = input::read_table(from, &mut table_space)? else {
         return Ok(false);
-    }
+    };
     let mut word_space = [0u8; 4096];
-    let word = input::read(from, &mut word_space)?;
-    if !word.whole {
+    let Some(length) = input::read(from, &mut word_space)? else {
         return Ok(false);
-    }
-    let size = sheet.length;
-    let count = table.length;
-    let length = word.length;
+    };
     answer_run(
         to,
         &sheet_space[..size],
@@ -58,7 +48,7 @@ pub fn answered_run(from: &mut impl Read, to: &mut impl Write) -> io::Result<boo
 }
 
 fn answer_run(to: &mut impl Write, sheet: &[u8], table: &[u16], word: &mut [u8]) -> io::Result<()> {
-    let reply = answers::of_run(tables::run(sheet, table, word));
+    let reply = answers::in_numbers(tables::run(sheet, table, word));
     output::reply(to, reply.number, reply.value)?;
     output::bytes(to, word)
 }

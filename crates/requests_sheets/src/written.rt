@@ -6,23 +6,19 @@ use std::io::{Read, Write};
 // Reads the lines and the sheet, answers, and says whether the request was whole. Each may have 16,384 bytes.
 pub fn answered(from: &mut impl Read, to: &mut impl Write) -> io::Result<bool> {
     let mut line_space = [0u8; 16384];
-    let lines = input::read(from, &mut line_space)?;
-    if !lines.whole {
+    let Some(length) = input::read(from, &mut line_space)? else {
         return Ok(false);
-    }
+    };
     let mut sheet_space = [0u8; 16384];
-    let sheet = input::read(from, &mut sheet_space)?;
-    if !sheet.whole {
+    let Some(size) = input::read(from, &mut sheet_space)? else {
         return Ok(false);
-    }
-    let length = lines.length;
-    let size = sheet.length;
+    };
     answer(to, &line_space[..length], &mut sheet_space[..size])?;
     Ok(true)
 }
 
 fn answer(to: &mut impl Write, lines: &[u8], sheet: &mut [u8]) -> io::Result<()> {
-    let reply = answers::of_making(imports::make(lines, sheet));
+    let reply = answers::in_numbers(imports::make(lines, sheet));
     output::reply(to, reply.number, reply.value)?;
     output::bytes(to, sheet)
 }

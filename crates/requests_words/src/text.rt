@@ -8,17 +8,15 @@ use std::io::{Read, Write};
 // Reads the text, answers, and says whether the request was whole. A text may have 70,000 bytes.
 pub fn answered_run(from: &mut impl Read, to: &mut impl Write) -> io::Result<bool> {
     let mut space = spaces::of_text();
-    let text = input::read(from, &mut space)?;
-    if !text.whole {
+    let Some(length) = input::read(from, &mut space)? else {
         return Ok(false);
-    }
-    let length = text.length;
+    };
     answer_run(to, &mut space[..length])?;
     Ok(true)
 }
 
 fn answer_run(to: &mut impl Write, text: &mut [u8]) -> io::Result<()> {
-    let reply = answers::of_text(texts::run(text));
+    let reply = answers::text_in_numbers(texts::run(text));
     output::reply(to, reply.number, reply.stemmed)?;
     output::number(to, reply.left)?;
     output::bytes(to, text)
@@ -28,15 +26,11 @@ pub fn answered_next(from: &mut impl Read, to: &mut impl Write) -> io::Result<bo
     let mut space = spaces::of_text();
     let text = input::read(from, &mut space)?;
     let place = input::read_number(from)?;
-    if !text.whole {
+    let (Some(length), Some(place)) = (text, place) else {
         return Ok(false);
-    }
-    if !place.whole {
-        return Ok(false);
-    }
-    let length = text.length;
-    output::number(to, pieces::next_word_at(&space[..length], place.value))?;
-    let word = pieces::next_word(&space[..length], place.value);
+    };
+    output::number(to, pieces::next_word_at(&space[..length], place))?;
+    let word = pieces::next_word(&space[..length], place);
     output::number(to, word.len())?;
     Ok(true)
 }

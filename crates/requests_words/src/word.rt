@@ -6,17 +6,15 @@ use std::io::{Read, Write};
 // Reads the word, answers, and says whether the request was whole. A word may have 4,096 bytes.
 pub fn answered(from: &mut impl Read, to: &mut impl Write) -> io::Result<bool> {
     let mut space = [0u8; 4096];
-    let word = input::read(from, &mut space)?;
-    if !word.whole {
+    let Some(length) = input::read(from, &mut space)? else {
         return Ok(false);
-    }
-    let length = word.length;
+    };
     answer(to, &mut space[..length])?;
     Ok(true)
 }
 
 fn answer(to: &mut impl Write, word: &mut [u8]) -> io::Result<()> {
-    let reply = answers::of_word(words::stem(word));
+    let reply = answers::in_numbers(words::stem(word));
     output::reply(to, reply.number, reply.value)?;
     output::bytes(to, word)
 }

@@ -1,7 +1,6 @@
 // The shipped rules of document 01 as constant tables, one a group, in 01's order. A row of 16 numbers is a rule: its condition; its
 // action, 0 or 1; 1 if it opens the next group; how many letters its ending has and how many its replacement; the ending, at the
-// end of seven places; the replacement, in four. Dots and dashes fill the rest, in turn: of equal bytes side by side each would be
-// written by itself where a table is named, and all others go sixteen at a time.
+// end of seven places; the replacement, in four. Dots and dashes fill the rest, in turn.
 pub const GROUP_1A: [u8; 64] = *b"\
     \x00\x00\x00\x04\x02.-.ssesss.-\
     \x00\x00\x00\x03\x01.-.-iesi.-.\

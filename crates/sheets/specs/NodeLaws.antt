@@ -1,5 +1,5 @@
 -- Counting the nodes of an accepted sheet record by record: where the rules of the group so far stand, and what is left to count.
-use Rattle.std.specs.Prelude.{ℕ, ◌+◌, ◌*◌, ◌-◌, ◌≤◌, ◌≡◌, length, take, drop}
+use Rattle.std.specs.Prelude.{ℕ, ◌+◌, ◌*◌, ◌-◌, ◌≤◌, ◌≡◌, Some, length, take, drop}
 use Rattle.std.proofs.Math.Path.{refl, ap}
 use Rattle.std.proofs.Common.{◌∙◌, arith}
 use mathlib.Core.List.{List, [], ◌∷◌, ◌++◌}
@@ -51,7 +51,7 @@ counting-start sheet is =
     }
 
 module _ {sheet : List ℕ} {at nodes first count : ℕ} (state : Counting sheet at nodes first count) where
-  pub counting_end : passed_at sheet at ≡ EndRecord → nodes ≡ node_count (groups_of sheet)
+  pub counting_end : passed_at sheet at ≡ Some EndRecord → nodes ≡ node_count (groups_of sheet)
   unfolding distinct tails_of node_count
   counting_end here =
       let over = end_next state.holds here in

@@ -1,5 +1,5 @@
 -- Reading a whole sheet record by record: what the rest of it, from a place on, decides.
-use Rattle.std.specs.Prelude.{ℕ, ◌+◌, ◌≡◌, refl, true, false, List, [], ◌∷◌, length, drop}
+use Rattle.std.specs.Prelude.{ℕ, ◌+◌, ◌≡◌, refl, true, false, Result, Ok, Err, List, [], ◌∷◌, length, drop}
 use Rattle.std.proofs.Common.{sym, ap, ◌∙◌, arith}
 use Rattle.paper.specs.Groups.{Rule, Group}
 use Rattle.paper.specs.Nodes.{node_count}
@@ -13,8 +13,7 @@ use Rattle.sheets.specs.Sheets.{misplaced_group, misplaced_rule, faulty, faulty_
 use Rattle.sheets.specs.Sheets.{Sheet, refused, accepted, read_sheet}
 use Rattle.sheets.specs.Accepted.{groups_in, groups_of, Accepted}
 use Rattle.sheets.specs.Reads.{ReadAs}
-use Rattle.sheets.specs.declared.Sheet.{Sheet as Read}
-use Rattle.sheets.specs.declared.Sheet.TheVariants.{Accepted as AcceptedSheet, Refused as RefusedSheet}
+use Rattle.answers.specs.declared.FaultySheet.{FaultySheet}
 use Rattle.sheets.specs.Checks.{checked}
 use Rattle.sheets.specs.SheetSteps.{group_fault, rule_fault}
 use Rattle.sheets.specs.SheetPlaces.{start_of, rest_start, rest_fault, rest_group, rest_rule, rest_end}
@@ -100,8 +99,11 @@ check_accepted sheet nodes groups is n g = rw (is, n, g)
 
 -- ## One sheet, one answer
 
-pub read_one : (sheet : List ℕ) (one other : Read) → ReadAs sheet one → ReadAs sheet other → one ≡ other
-read_one sheet (AcceptedSheet groups) (AcceptedSheet many) is also = ap AcceptedSheet (is.1 ∙ sym also.1)
-read_one sheet (AcceptedSheet groups) (RefusedSheet place) is also = apart (let no = sym is.0 ∙ also in cc)
-read_one sheet (RefusedSheet place) (AcceptedSheet groups) is also = apart (let no = sym is ∙ also.0 in cc)
-read_one sheet (RefusedSheet place) (RefusedSheet there) is also = let both = sym is ∙ also in ap RefusedSheet (cc)
+pub read_one : (sheet : List ℕ) (one other : Result ℕ FaultySheet) → ReadAs sheet one → ReadAs sheet other → one ≡ other
+read_one sheet (Ok groups) (Ok many) is also = ap Ok (is.1 ∙ sym also.1)
+read_one sheet (Ok groups) (Err fault) is also = apart (let no = sym is.0 ∙ also in cc)
+read_one sheet (Err fault) (Ok groups) is also = apart (let no = sym is ∙ also.0 in cc)
+read_one sheet (Err fault) (Err other) is also =
+    let both = sym is ∙ also in
+    let same : fault.place ≡ other.place = cc in
+    ap (λ place. Err (record { place = place })) same

@@ -1,5 +1,5 @@
 -- The way through a sheet, record by record: what the rest of it is where a record starts, and how one record carries that on.
-use Rattle.std.specs.Prelude.{ℕ, suc, ◌+◌, ◌≤◌, ◌<◌, ◌≡◌, refl, true, false, cond, List, [], ◌∷◌, ◌++◌, eqb, ltb, length, drop}
+use Rattle.std.specs.Prelude.{ℕ, suc, ◌+◌, ◌≤◌, ◌<◌, ◌≡◌, refl, true, false, cond, Some, None, List, [], ◌∷◌, ◌++◌, eqb, ltb, length, drop}
 use Rattle.std.proofs.Math.Path.{sym}
 use Rattle.std.proofs.Common.{ap, ◌∙◌, add-one, arith, length-drop, ltb-true, ltb-false}
 use Rattle.std.proofs.lemmas.Bool.{false≢true}
@@ -16,7 +16,8 @@ use Rattle.passing.specs.Passed.{passed_at}
 use Rattle.passing.specs.PassedLaws.{passed_is}
 use Rattle.records.specs.RecordLaws.{EndHere}
 use Rattle.records.specs.RecordPlaces.{GroupAt, RuleFacts, RuleAt, record_here}
-use Rattle.records.specs.declared.Record.TheVariants.{Group as GroupRecord, Rule as RuleRecord, End as EndRecord, Faulty as FaultyRecord}
+use Rattle.records.specs.declared.Record.TheVariants.{Group as GroupRecord, Rule as RuleRecord, End as EndRecord}
+use Rattle.records.specs.declared.RuleRecord.{RuleRecord as RuleNumbers}
 use Rattle.sheets.specs.Sheets.{misplaced_group, misplaced_rule, misplaced, faulty, Rest, faulty_at_lem, holding, rule_then, group_then}
 use Rattle.sheets.specs.Sheets.{read_rest, rest_at, Sheet, refused, accepted, whole, read_sheet}
 use Rattle.sheets.specs.SheetSteps.{fault_alone, group_fault, rule_fault, few_groups, few_rules, faulty-empty, enough}
@@ -155,13 +156,13 @@ module _ {sheet : List ℕ} {at groups rules : ℕ} {list : List Rule} {more : L
   unfolding faulty
   read_again = sym (passed_is sheet at (neither_left (faulty_alone (drop at sheet)) (misplaced groups rules (drop at sheet)) never-faulty))
 
-  pub never-alone : passed_at sheet at ≡ FaultyRecord → ⊥
+  pub never-alone : passed_at sheet at ≡ None → ⊥
   never-alone e =
-      false≢true (sym never-faulty ∙ fault_alone groups rules (drop at sheet) (record_here sheet at FaultyRecord (sym read_again ∙ e)))
+      false≢true (sym never-faulty ∙ fault_alone groups rules (drop at sheet) (record_here sheet at None (sym read_again ∙ e)))
 
-  pub group_next : {number next : ℕ} → passed_at sheet at ≡ GroupRecord number next → GroupNext here number next
+  pub group_next : {number next : ℕ} → passed_at sheet at ≡ Some (GroupRecord number next) → GroupNext here number next
   group_next {number} {next} e =
-      let is = record_here sheet at (GroupRecord number next) (sym read_again ∙ e) in
+      let is = record_here sheet at (Some (GroupRecord number next)) (sym read_again ∙ e) in
       let placed = sym (group_fault groups rules is.here) ∙ never-faulty in
       let found =
       after_group (gate (body (drop at sheet))) (rest_at sheet next (groups + 1) rules) list more
@@ -179,18 +180,18 @@ module _ {sheet : List ℕ} {at groups rules : ℕ} {list : List Rule} {more : L
         few = few_groups groups (body (drop at sheet)) placed;
       }
 
-  pub rule_next : {c a o start middle next : ℕ} → passed_at sheet at ≡ RuleRecord c a o start middle next
-      → RuleNext here c a o start middle next
-  rule_next {c} {a} {o} {start} {middle} {next} e =
-      let is = record_here sheet at (RuleRecord c a o start middle next) (sym read_again ∙ e) in
+  pub rule_next : (r : RuleNumbers) → passed_at sheet at ≡ Some (RuleRecord r)
+      → RuleNext here r.condition r.action r.opens r.start r.middle r.next
+  rule_next r e =
+      let is = record_here sheet at (Some (RuleRecord r)) (sym read_again ∙ e) in
       let placed = sym (rule_fault groups rules is.here) ∙ never-faulty in
       let found =
-      after_rule (rule (body (drop at sheet))) (rest_at sheet next groups (rules + 1)) list more
+      after_rule (rule (body (drop at sheet))) (rest_at sheet r.next groups (rules + 1)) list more
       (sym (rest_rule sheet at groups rules is placed) ∙ here.rest_is) in
       record {
         one = rule (body (drop at sheet));
         facts = is.facts;
-        bytes_here = let next-bytes : after (drop at sheet) ≡ drop next sheet = rw is.next_is (sym (beyond sheet at)) in
+        bytes_here = let next-bytes : after (drop at sheet) ≡ drop r.next sheet = rw is.next_is (sym (beyond sheet at)) in
             rw next-bytes at (rule_record_lem is.here);
         rules_then = found.rules_then;
         holds = record { rest_is = found.rest_then };
@@ -199,8 +200,8 @@ module _ {sheet : List ℕ} {at groups rules : ℕ} {list : List Rule} {more : L
         few = few_rules groups rules placed;
       }
 
-  pub end_next : passed_at sheet at ≡ EndRecord → (list ≡ []) × (more ≡ [])
+  pub end_next : passed_at sheet at ≡ Some EndRecord → (list ≡ []) × (more ≡ [])
   end_next e =
-      let is = record_here sheet at EndRecord (sym read_again ∙ e) in
+      let is = record_here sheet at (Some EndRecord) (sym read_again ∙ e) in
       let ended = sym (rest_end sheet at groups rules is) ∙ here.rest_is in
       (cc, cc)

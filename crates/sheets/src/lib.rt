@@ -4,11 +4,14 @@
 ghost use Rattle.std.specs.Prelude.{◌≡◌, ◌&&◌, ◌||◌, eqb, leb};
 ghost use Rattle.answers.specs.Answers.{tells};
 ghost use Rattle.paper.specs.Nodes.{node_count};
-ghost use Rattle.sheets.specs.Accepted.{groups_of, Accepted};
+ghost use Rattle.sheets.specs.Accepted.{groups_of};
 ghost use Rattle.sheets.specs.Checks.{checked};
 ghost use Rattle.sheets.specs.Reads.{ReadAs};
 
-use answers::Checked;
+mod accepted;
+
+pub use accepted::AcceptedSheet;
+use answers::{FaultySheet, SheetCounts};
 use passing::pass;
 use records::Record;
 use records::reader::draw;
@@ -28,100 +31,70 @@ pub fn misplaced_rule(groups: usize, rules: usize) -> bool
     (groups == 0) | (rules >= 128)
 }
 
-// A sheet, read: how many groups it holds, or the place of its first faulty record.
-#[derive(Drop)]
-pub enum Sheet {
-    Accepted(usize),
-    Refused(usize),
-}
-
-// Reads a whole sheet: so many groups and rules stand before `at`.
-pub fn read(sheet: &[u8]) -> Sheet
+// Reads a whole sheet, and counts its groups: so many groups and rules stand before `at`.
+pub fn read(sheet: &[u8]) -> Result<usize, FaultySheet>
     ensures { ReadAs sheet.now result }
 {
     let mut at = 0;
     let mut groups = 0;
     let mut rules = 0;
-    while at < sheet.len() {
-        let found = draw(sheet, at);
-        match found {
+    while let Some(record) = draw(sheet, at) {
+        match record {
             Record::Group { gate, next } => {
                 if misplaced_group(groups, gate) {
-                    return Sheet::Refused(at);
+                    return Err(FaultySheet { place: at });
                 }
                 groups += 1;
                 at = next;
             }
-            Record::Rule {
-                condition: _,
-                action: _,
-                opens: _,
-                start: _,
-                middle: _,
-                next,
-            } => {
+            Record::Rule(rule) => {
                 if misplaced_rule(groups, rules) {
-                    return Sheet::Refused(at);
+                    return Err(FaultySheet { place: at });
                 }
                 rules += 1;
-                at = next;
+                at = rule.next;
             }
-            Record::End => return Sheet::Accepted(groups),
-            Record::Faulty => return Sheet::Refused(at),
+            Record::End => return Ok(groups),
         }
     }
-    Sheet::Refused(at)
+    Err(FaultySheet { place: at })
 }
 
 // The nodes that the table of an accepted sheet needs: so many are counted before `at`. Of the group that is read, `count` rules
 // stand from `first` on.
-fn count_nodes(sheet: &[u8]) -> usize
-    requires { Accepted sheet.now }
-    ensures { result ≡ node_count (groups_of sheet.now) }
+fn count_nodes(sheet: AcceptedSheet<'_>) -> usize
+    ensures { result ≡ node_count (groups_of sheet.entry.bytes.now) }
 {
+    let bytes = sheet.bytes;
     let mut at = 0;
     let mut nodes = 0;
     let mut first = 0;
     let mut count = 0;
-    while at < sheet.len() {
-        let found = pass(sheet, at);
-        match found {
+    while let Some(record) = pass(bytes, at) {
+        match record {
             Record::Group { gate: _, next } => {
                 nodes += 1;
                 at = next;
                 first = next;
                 count = 0;
             }
-            Record::Rule {
-                condition: _,
-                action: _,
-                opens: _,
-                start,
-                middle,
-                next,
-            } => {
-                let shared = longest_shared(sheet, first, count, &sheet[start..middle]);
-                nodes += middle - start - shared;
-                at = next;
+            Record::Rule(rule) => {
+                let ending = &bytes[rule.start..rule.middle];
+                nodes += ending.len() - longest_shared(bytes, first, count, ending);
+                at = rule.next;
                 count += 1;
             }
-            Record::End => return nodes,
-            Record::Faulty => return nodes,
+            Record::End => break,
         }
     }
     nodes
 }
 
 // The check of a whole sheet.
-pub fn check(sheet: &[u8]) -> Checked
+pub fn check(sheet: &[u8]) -> Result<SheetCounts, FaultySheet>
     ensures { tells result ≡ checked sheet.now }
 {
-    let found = read(sheet);
-    match found {
-        Sheet::Refused(place) => Checked::Refused(place),
-        Sheet::Accepted(groups) => Checked::Accepted {
-            nodes: count_nodes(sheet),
-            groups,
-        },
-    }
+    let groups = read(sheet)?;
+    let nodes = count_nodes(AcceptedSheet { bytes: sheet });
+    Ok(SheetCounts { nodes, groups })
 }

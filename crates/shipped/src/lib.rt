@@ -15,7 +15,7 @@ pub mod rule_lines;
 pub mod sheet_bytes;
 pub mod table_numbers;
 
-use answers::Ran;
+use answers::RunRefusal;
 use rule_lines::LINES;
 use sheet_bytes::SHEET;
 use table_numbers::TABLE;
@@ -43,7 +43,7 @@ pub fn table() -> [u16; 648]
 
 // The run of the two on a word: what reading the shipped rules group by group gives. From 3 letters on that is the stem of demand 2
 // (`delivered_runs` of `tables`); a word of one or two letters, which is its own stem, is read here as sheets are.
-pub fn run(word: &mut [u8]) -> Ran
+pub fn run(word: &mut [u8]) -> Result<usize, RunRefusal>
     ensures { Gives (word_outcome (read_word shipped) word.old) (number_of_ran result) (value_of_ran result) word.new }
 {
     let rules = sheet();

@@ -10,16 +10,26 @@ ghost use Rattle.texts.specs.Texts.{text_outcome};
 ghost use Rattle.stem.specs.Input.{came};
 ghost use Rattle.stem.specs.Output.{written};
 
-use answers::TextRun;
+use answers::TooLong;
 use filling::fill;
+use std::fmt;
 use std::io::{Read, Write};
 use std::process::ExitCode;
 
 // What could not be done.
-#[derive(Drop)]
+#[derive(Clone, Copy)]
 enum Failure {
     Unread,
     Unwritten,
+}
+
+impl fmt::Display for Failure {
+    fn fmt<W: fmt::Write>(&self, f: &mut fmt::Formatter<W>) -> fmt::Result {
+        f.write_str(match self {
+            Failure::Unread => "stem: standard input cannot be read",
+            Failure::Unwritten => "stem: the answer was not written whole",
+        })
+    }
 }
 
 // Reads until the input ends, however small the pieces in which it comes, or until the buffer is full, and says how many bytes came.
@@ -29,10 +39,7 @@ fn read_input<R: Read>(from: &mut R, buffer: &mut [u8]) -> Result<usize, Failure
         Consumes (R.remaining from.old) (R.remaining from.new) (take count buffer.new)) }
     ensures ended { IfOk result (λ count. count < length buffer.new → IsAtEnd (R.remaining from.new)) }
 {
-    match fill(from, buffer) {
-        Ok(count) => Ok(count),
-        Err(_) => Err(Failure::Unread),
-    }
+    fill(from, buffer).map_err(|_| Failure::Unread)
 }
 
 // Writes the text after the run, or the refusal.
@@ -41,16 +48,10 @@ fn write_answer<W: Write>(to: &mut W, text: &mut [u8]) -> Result<(), Failure>
         (Appends (W.contents to.old) (W.contents to.new) (written (text_outcome (stem shipped) text.old))) }
 {
     let wrote = match texts::run(text) {
-        TextRun::Done {
-            stemmed: _,
-            left: _,
-        } => to.write_all(text),
-        TextRun::TooLong => to.write_all(b"refused 5\n"),
+        Ok(_) => to.write_all(text),
+        Err(TooLong) => to.write_all(b"refused 5\n"),
     };
-    match wrote {
-        Ok(()) => Ok(()),
-        Err(_) => Err(Failure::Unwritten),
-    }
+    wrote.map_err(|_| Failure::Unwritten)
 }
 
 // The whole run, from any reader to any writer. The buffer holds one byte more than a text may have, so that a longer one is seen and
@@ -66,11 +67,11 @@ fn run<R: Read, W: Write>(from: &mut R, to: &mut W) -> Result<(), Failure>
 
 // If what failed cannot be said on standard error either, the status alone says that something did.
 fn main(rt: HostRuntime) -> ExitCode {
-    let said = match run(&mut rt.stdin(), &mut rt.stdout()) {
-        Ok(()) => return ExitCode::SUCCESS,
-        Err(Failure::Unread) => "stem: standard input cannot be read",
-        Err(Failure::Unwritten) => "stem: the answer was not written whole",
-    };
-    let _ = rt.eprintln(said);
-    ExitCode::FAILURE
+    match run(&mut rt.stdin(), &mut rt.stdout()) {
+        Ok(()) => ExitCode::SUCCESS,
+        Err(failure) => {
+            let _ = rt.eprintln(failure);
+            ExitCode::FAILURE
+        }
+    }
 }

@@ -1,15 +1,19 @@
 -- What the run of a table answers, by what is said of the sheet and the table.
-use Rattle.std.specs.Prelude.{ℕ, ◌*◌, ◌≤◌, ◌≡◌, true, false, List, take}
+use Rattle.std.specs.Prelude.{ℕ, ◌*◌, ◌≤◌, ◌≡◌, true, false, Ok, Err, List, take}
 use Rattle.std.proofs.Math.Path.{refl, ap}
 use Rattle.std.proofs.Common.{sym}
 use native.Mathlib.Omega.{arith}
 use Rattle.std.proofs.Math.ListN.{length, length-take}
+use Rattle.answers.specs.Answers.{refused_run}
+use Rattle.answers.specs.declared.FaultySheet.{FaultySheet}
+use Rattle.answers.specs.declared.RunRefusal.{RunRefusal}
+use Rattle.answers.specs.declared.RunRefusal.TheVariants.{Sheet as Unread, Table, Word}
+use Rattle.answers.specs.declared.WordRefusal.{WordRefusal}
 use Rattle.paper.specs.GroupsLaws.{same_equal}
 use Rattle.paper.specs.Nodes.{node_count}
 use Rattle.paper.specs.TestLaws.{apart, by_test}
 use Rattle.paper.specs.Words.{word_outcome, Gives}
 use Rattle.judging.specs.Judgements.{right_table, judgement_of, judgement}
-use Rattle.judging.specs.declared.Judged.TheVariants.{Right, Refused, Other}
 use Rattle.levels.specs.Layout.{table_of}
 use Rattle.levels.specs.CountLaws.{table-length}
 use Rattle.paths.specs.Children.{nodes_in}
@@ -22,20 +26,28 @@ use Rattle.tables.specs.RunOutcomes.{run_of, run_outcome}
 
 -- ## What it says of the sheet
 
-refused_by : (found : Sheet) (table : List ℕ) (place : ℕ) → judgement_of found table ≡ Refused place → found ≡ refused place
+refused_by : (found : Sheet) (table : List ℕ) (fault : FaultySheet) → judgement_of found table ≡ Err (Unread fault)
+    → found ≡ refused fault.place
 unfolding judgement_of
-refused_by (refused other) table place e = cc
-refused_by (accepted groups) table place e =
+refused_by (refused other) table fault e =
+    let same : record { place = other } ≡ fault = cc in ap refused (ap (λ (f : FaultySheet). f.place) same)
+refused_by (accepted groups) table fault e =
     by_test (right_table groups table) (λ p. apart (let no = rw p at e in cc)) (λ p. apart (let no = rw p at e in cc))
 
-other_by : (found : Sheet) (table : List ℕ) → judgement_of found table ≡ Other
+never_by : (found : Sheet) (table : List ℕ) (word : WordRefusal) → judgement_of found table ≡ Err (Word word) → ⊥
+unfolding judgement_of
+never_by (refused other) table word e = apart (cc)
+never_by (accepted groups) table word e =
+    by_test (right_table groups table) (λ p. apart (let no = rw p at e in cc)) (λ p. apart (let no = rw p at e in cc))
+
+other_by : (found : Sheet) (table : List ℕ) → judgement_of found table ≡ Err Table
     → (found ≡ accepted (groups_in found)) × (right_table (groups_in found) table ≡ false)
 unfolding judgement_of groups_in
 other_by (refused place) table e = apart (cc)
 other_by (accepted groups) table e =
     by_test (right_table groups table) (λ p. apart (let no = rw p at e in cc)) (λ p. (refl, p))
 
-right_by : (found : Sheet) (table : List ℕ) (nodes : ℕ) → judgement_of found table ≡ Right nodes
+right_by : (found : Sheet) (table : List ℕ) (nodes : ℕ) → judgement_of found table ≡ Ok nodes
     → (found ≡ accepted (groups_in found)) × (right_table (groups_in found) table ≡ true) × (nodes ≡ node_count (groups_in found))
 unfolding judgement_of groups_in
 right_by (refused place) table nodes e = apart (cc)
@@ -45,18 +57,18 @@ right_by (accepted groups) table nodes e =
 -- ## What the run answers
 
 module _ (sheet table word : List ℕ) where
-  pub run_refused : (place : ℕ) → Refused place ≡ judgement sheet table → Gives (run_outcome sheet table word) 3 place word
+  -- what is said of the sheet and the table is the answer, and leaves the word as it came
+  pub run_refused : (refusal : RunRefusal) → Err refusal ≡ judgement sheet table
+      → Gives (run_outcome sheet table word) (refused_run refusal).number (refused_run refusal).value word
   unfolding judgement run_outcome run_of
-  run_refused place is =
-      rw (refused_by (read_sheet sheet) table place (sym is)) (record { number_is = refl; value_is = refl; place_is = refl })
-
-  pub run_other : Other ≡ judgement sheet table → Gives (run_outcome sheet table word) 7 0 word
-  unfolding judgement run_outcome run_of
-  run_other is =
+  run_refused (Unread fault) is =
+      rw (refused_by (read_sheet sheet) table fault (sym is)) (record { number_is = refl; value_is = refl; place_is = refl })
+  run_refused Table is =
       let found = other_by (read_sheet sheet) table (sym is) in
       rw (found.0, found.1) (record { number_is = refl; value_is = refl; place_is = refl })
+  run_refused (Word refusal) is = absurd (never_by (read_sheet sheet) table refusal (sym is))
 
-  module _ (nodes : ℕ) (is : Right nodes ≡ judgement sheet table) where
+  module _ (nodes : ℕ) (is : Ok nodes ≡ judgement sheet table) where
     right : Accepted sheet × (right_table (groups_of sheet) table ≡ true) × (nodes ≡ node_count (groups_of sheet))
     unfolding judgement groups_of
     right = right_by (read_sheet sheet) table nodes (sym is)

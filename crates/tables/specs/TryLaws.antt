@@ -1,14 +1,17 @@
 -- Trying the rules of a group in sheet order, record by record.
 use Rattle.std.specs.Prelude.{ℕ, suc, ◌+◌, ◌-◌, ◌≤◌, ◌<◌, ◌≡◌, refl, Bool, true, false, ◌&&◌, List, [], ◌∷◌, eqb, leb, length, take, drop}
-use Rattle.std.proofs.Common.{sym, ap, ◌∙◌, add-one, arith}
-use Rattle.std.proofs.Math.Bool.{and-false}
-use borrow.Author.Tests.{lt-leb, le-leb, eq-eqb, ne_eqb}
+use Rattle.std.specs.Prelude.{Option as Answer, Some, None}
+use Rattle.std.proofs.Common.{sym, ap, ◌∙◌, add-one}
 use Rattle.std.proofs.Math.Option.{Option, none, some}
+use borrow.Author.Tests.{lt-leb, le-leb}
 use Rattle.paper.specs.Conditions.{holds}
 use Rattle.paper.specs.Groups.{Rule, Group, before}
+use Rattle.paper.specs.TestLaws.{by_test, and_parts}
 use Rattle.passing.specs.Passed.{passed_at}
 use Rattle.records.specs.RecordPlaces.{RuleFacts}
-use Rattle.records.specs.declared.Record.TheVariants.{Group as GroupRecord, End as EndRecord}
+use Rattle.records.specs.declared.Record.{Record}
+use Rattle.records.specs.declared.Record.TheVariants.{Group as GroupRecord, Rule as RuleRecord, End as EndRecord}
+use Rattle.records.specs.declared.RuleRecord.{RuleRecord as RuleNumbers}
 use Rattle.sheets.specs.Sheets.{Rest, faulty_at_lem, holding, rest_at}
 use Rattle.walks.specs.Walk.{Nodes, reached, held}
 use Rattle.walks.specs.PickLaws.{pick}
@@ -39,10 +42,16 @@ picked nodes root found word number rules =
     pick (λ rule. eqb found (held nodes (reached nodes root rule.ending))) (λ rule. holds rule.condition
     (before word rule.ending)) found number rules
 
--- what is handed back of the rule that was picked: its numbers and places, or none that starts after 0
-abbrev pub PickedAs : List ℕ → Option Rule → ℕ → ℕ → ℕ → ℕ → ℕ → Type 0
-PickedAs sheet none action opens start middle next = start ≡ 0
-PickedAs sheet (some one) action opens start middle next = (condition : ℕ) × RuleFacts sheet condition action opens start middle next one
+-- this is the record of the rule that was picked
+pub record Recorded (sheet : List ℕ) (found : Option Rule) (r : RuleNumbers) : Type 0 where
+  pub one : Rule
+  pub is_one : found ≡ some one
+  pub facts : RuleFacts sheet r.condition r.action r.opens r.start r.middle r.next one
+
+-- what is handed back of the rule that was picked: its record, or none
+abbrev pub PickedAs : List ℕ → Option Rule → Answer RuleNumbers → Type 0
+PickedAs sheet found None = found ≡ none
+PickedAs sheet found (Some r) = Recorded sheet found r
 
 pub record Trying (nodes : Nodes) (root found : ℕ) (word sheet : List ℕ) (groups start first place rules : ℕ) : Type 0 where
   pub list : List Rule
@@ -51,16 +60,6 @@ pub record Trying (nodes : Nodes) (root found : ℕ) (word sheet : List ℕ) (gr
   pub decides :
       picked nodes root found word (rules + 1) list
       ≡ picked nodes root found word (first + 1) (rules_of (rest_at sheet start groups first))
-
-pub trying_start : (nodes : Nodes) (root found : ℕ) (word sheet : List ℕ) (groups start first : ℕ) → Readable sheet start groups first
-    → Trying nodes root found word sheet groups start first start first
-trying_start nodes root found word sheet groups start first is =
-    record {
-      list = rules_of (rest_at sheet start groups first);
-      more = groups_after (rest_at sheet start groups first);
-      holds_here = record { rest_is = is };
-      decides = refl;
-    }
 
 picked_none : (nodes : Nodes) (root found : ℕ) (word : List ℕ) (number : ℕ) (list : List Rule) → list ≡ []
     → picked nodes root found word number list ≡ none
@@ -87,11 +86,12 @@ module _ {nodes : Nodes} {root found : ℕ} {word sheet : List ℕ} {groups star
   none_picked : state.list ≡ [] → answer ≡ none
   none_picked e = sym state.decides ∙ picked_none nodes root found word (rules + 1) state.list e
 
-  pub trying_group : {number next : ℕ} → passed_at sheet place ≡ GroupRecord number next → answer ≡ none
-  trying_group e = none_picked (group_next state.holds_here e).none_before
-
-  pub trying_end : passed_at sheet place ≡ EndRecord → answer ≡ none
-  trying_end e = none_picked (end_next state.holds_here e).0
+  -- no rule stands here
+  pub trying_over : (record_here : Record) → passed_at sheet place ≡ Some record_here
+      → ((r : RuleNumbers) → record_here ≡ RuleRecord r → ⊥) → answer ≡ none
+  trying_over (GroupRecord number next) e no_rule_lem = none_picked (group_next state.holds_here e).none_before
+  trying_over (RuleRecord r) e no_rule_lem = absurd (no_rule_lem r refl)
+  trying_over EndRecord e no_rule_lem = none_picked (end_next state.holds_here e).0
 
   module _ {c a o start_of_lem middle after : ℕ} (found_rule : RuleNext state.holds_here c a o start_of_lem middle after) where
     -- how the rule that stands here was judged
@@ -124,38 +124,26 @@ module _ {nodes : Nodes} {root found : ℕ} {word sheet : List ℕ} {groups star
 
 -- ## One rule, test by test
 
-module _ (nodes : Nodes) (root found : ℕ) (word : List ℕ) (number condition : ℕ) (s1 : List ℕ) where
-  pub obeys_early : number < found → obeys nodes root found word number condition s1 ≡ false
-  unfolding obeys
-  obeys_early h = rw (lt-leb found number h)
+module _ (found number there : ℕ) {first : Bool} where
+  pub both_tested : found ≤ number → first ≡ eqb found there → first ≡ leb found number && eqb found there
+  both_tested h is = is ∙ rw (le-leb found number h)
 
-  pub obeys_other : (there : ℕ) → there ≡ held nodes (reached nodes root s1) → (found ≡ there → ⊥)
-      → obeys nodes root found word number condition s1 ≡ false
-  unfolding obeys
-  obeys_other there e h = rw (← e, ne_eqb found there h, and-false)
+  pub one_tested : number < found → first ≡ leb found number → first ≡ leb found number && eqb found there
+  one_tested h is = is ∙ rw (lt-leb found number h)
 
-  pub obeys_judged : (there : ℕ) (answer : Bool) (part : ℕ) → found ≤ number → there ≡ held nodes (reached nodes root s1) → found ≡ there
-      → part ≡ length word - length s1 → answer ≡ holds condition (take part word)
+-- the condition is tried where the first two tests hold
+module _ (nodes : Nodes) (root found : ℕ) (word : List ℕ) (number condition : ℕ) (s1 : List ℕ) {first : Bool}
+    (is : first ≡ leb found number && eqb found (held nodes (reached nodes root s1))) where
+  pub obeys_tried : {answer : Bool} {part : ℕ} → first ≡ true → part ≡ length word - length s1 → answer ≡ holds condition (take part word)
       → answer ≡ obeys nodes root found word number condition s1
   unfolding obeys before
-  obeys_judged there answer part h e f p j = rw (le-leb found number h, ← e, eq-eqb found there f, ← p) j
+  obeys_tried t p j =
+      let both = and_parts (leb found number) (eqb found (held nodes (reached nodes root s1))) (sym is ∙ t) in
+      rw (both.0, both.1, ← p) j
 
--- ## What was handed back says whether a rule was picked, and which
-
-module _ (sheet : List ℕ) (found : Option Rule) (action opens start middle next : ℕ) where
-  pub record Some : Type 0 where
-    pub one : Rule
-    pub condition : ℕ
-    pub is_one : found ≡ some one
-    pub facts : RuleFacts sheet condition action opens start middle next one
-
-pub none_picked_as : (sheet : List ℕ) (found : Option Rule) (action opens start middle next : ℕ)
-    → PickedAs sheet found action opens start middle next → start ≡ 0 → found ≡ none
-none_picked_as sheet none action opens start middle next is e = refl
-none_picked_as sheet (some one) action opens start middle next is e = let h = is.1.some in absurd (omega arith)
-
-pub some_picked_as : (sheet : List ℕ) (found : Option Rule) (action opens start middle next : ℕ)
-    → PickedAs sheet found action opens start middle next → (start ≡ 0 → ⊥) → Some sheet found action opens start middle next
-some_picked_as sheet none action opens start middle next is e = absurd (e is)
-some_picked_as sheet (some one) action opens start middle next is e =
-    record { one = one; condition = is.0; is_one = refl; facts = is.1 }
+  pub obeys_other : first ≡ false → first ≡ obeys nodes root found word number condition s1
+  unfolding obeys
+  obeys_other t =
+      let none = sym is ∙ t in
+      t ∙ by_test (leb found number)
+      (λ p. let other : eqb found (held nodes (reached nodes root s1)) ≡ false = rw p at none in rw (p, other)) (λ p. rw p)

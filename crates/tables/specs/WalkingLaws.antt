@@ -1,21 +1,21 @@
 -- Walking the groups of a sheet one after another, record by record.
-use Rattle.std.specs.Prelude.{ℕ, ◌+◌, ◌≤◌, ◌≡◌, Bool, true, false, cond, ◌||◌, eqb, take}
+use Rattle.std.specs.Prelude.{ℕ, ◌+◌, ◌≤◌, ◌≡◌, Bool, true, false, cond, ◌||◌, Some, eqb, take}
 use Rattle.std.proofs.Common.{sym, ap, subst, ◌∙◌, arith, length-take}
 use mathlib.Core.List.{List, [], ◌∷◌}
 use Rattle.std.proofs.Math.Numerals.{add-one}
 use Rattle.std.proofs.Math.ListN.{length}
 use Rattle.std.proofs.Math.Seq.{take-length}
-use Rattle.paper.specs.Groups.{Rule, Gate, always, if_opened, Group, runs, Turn, steps, done, outgrown, reading, through}
+use Rattle.paper.specs.Groups.{Rule, Gate, always, if_opened, Group, runs, Turn, Step, steps, done, outgrown, reading, through}
 use Rattle.paper.specs.TurnLaws.{turn_skipped, turn_run, turn_outgrown}
 use Rattle.passing.specs.Passed.{passed_at}
 use Rattle.records.specs.declared.Record.TheVariants.{End as EndRecord}
 use Rattle.sheets.specs.Sheets.{rest_at}
 use Rattle.walks.specs.Walk.{Nodes, walked, walk_group, walk_turns, walk_word}
-use Rattle.paper.specs.TestLaws.{by_test}
+use Rattle.paper.specs.TestLaws.{by_test, neither_right}
 use Rattle.sheets.specs.Accepted.{groups_of, Accepted}
 use Rattle.sheets.specs.SheetPlaces.{Holding, holding_start, GroupNext, RuleNext, end_next}
 use Rattle.tables.specs.TryLaws.{rules_of, groups_after, Readable}
-use Rattle.tables.specs.GroupStepLaws.{Stepped}
+use Rattle.tables.specs.GroupStepLaws.{Outgrows, Stepped}
 
 -- the rest of the sheet decides what the walk leaves
 pub record Walking (nodes : Nodes) (sheet first : List ℕ) (at next rules : ℕ) (opened : Bool) (word : List ℕ) : Type 0 where
@@ -81,25 +81,29 @@ module _ {nodes : Nodes} {sheet first : List ℕ} {at next rules : ℕ} {opened 
     go_on word-then opened-then fits e =
         record { list = found.rules_then; more = found.groups_then; holds = found.holds; short = fits; decides = sym e ∙ from_here }
 
-    pub walking_skip : (eqb number 0 || opened) ≡ false → Walking nodes sheet first after_group (next + 1) rules false word
-    walking_skip t = go_on word false state.short (turn_skipped (length first) split opened word (gated false t) state.short)
+    -- a group that is not run opens none
+    pub walking_skip : (eqb number 0 || opened) ≡ false → Walking nodes sheet first after_group (next + 1) rules opened word
+    walking_skip t =
+        rw (neither_right (eqb number 0) opened t)
+        (go_on word false state.short (turn_skipped (length first) split opened word (gated false t) state.short))
 
-    module _ (after : List ℕ) (size : ℕ) (opened-then fits : Bool) (t : (eqb number 0 || opened) ≡ true)
-        (stepped : Stepped (walk_group nodes next (rules + 1) word (rules_of (rest_at sheet after_group (next + 1) rules)))
-        (length first) after size opened-then fits) where
-      step_own : Stepped (walk_group nodes next (rules + 1) word found.rules_then) (length first) after size opened-then fits
-      step_own = subst (λ (list : List Rule). Stepped (walk_group nodes next (rules + 1) word list)
-          (length first) after size opened-then fits) rules_here stepped
+    module _ (t : (eqb number 0 || opened) ≡ true) where
+      abbrev step_of : List Rule → Step
+      step_of list = walk_group nodes next (rules + 1) word list
 
-      pub walking_step : fits ≡ true → Walking nodes sheet first after_group (next + 1) rules opened-then (take size after)
-      walking_step f =
-          let left = step_own.letters f in
-          let run = turn_run (length first) split opened word (gated true t) (sym step_own.fits_is ∙ f) in
-          go_on (take size after) opened-then (omega (arith, left.1, length-take size after)) (rw (left.0, left.2) run)
+      pub walking_step : (after : List ℕ) (size : ℕ) (opened-then : Bool)
+          → Stepped (step_of (rules_of (rest_at sheet after_group (next + 1) rules))) (length first) after size opened-then
+          → Walking nodes sheet first after_group (next + 1) rules opened-then (take size after)
+      walking_step after size opened-then stepped =
+          let own = subst (λ (list : List Rule). Stepped (step_of list) (length first) after size opened-then) rules_here stepped in
+          let run = turn_run (length first) split opened word (gated true t) own.fits in
+          go_on (take size after) opened-then (omega (arith, own.inside, length-take size after)) (rw (own.letters, own.opened_is) run)
 
-      pub walking_outgrown : fits ≡ false → outgrown ≡ walk_word nodes (groups_of sheet) first
-      walking_outgrown f =
-          sym (turn_outgrown (length first) split opened word (gated true t) (sym step_own.fits_is ∙ f)) ∙ from_here
+      pub walking_outgrown : Outgrows (step_of (rules_of (rest_at sheet after_group (next + 1) rules))) (length first)
+          → outgrown ≡ walk_word nodes (groups_of sheet) first
+      walking_outgrown over =
+          let own = subst (λ (list : List Rule). Outgrows (step_of list) (length first)) rules_here over in
+          sym (turn_outgrown (length first) split opened word (gated true t) own) ∙ from_here
 
   pub walking_rule : {c a o start middle after : ℕ} → RuleNext state.holds c a o start middle after
       → Walking nodes sheet first after next (rules + 1) opened word
@@ -114,7 +118,7 @@ module _ {nodes : Nodes} {sheet first : List ℕ} {at next rules : ℕ} {opened 
         decides = rw same_number state.decides;
       }
 
-  pub walking_end : passed_at sheet at ≡ EndRecord → done word ≡ walk_word nodes (groups_of sheet) first
+  pub walking_end : passed_at sheet at ≡ Some EndRecord → done word ≡ walk_word nodes (groups_of sheet) first
   unfolding walk_turns steps reading
   walking_end here =
       let over = end_next state.holds here in

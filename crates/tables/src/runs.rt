@@ -1,250 +1,145 @@
 // The run of a table on a word, group by group.
-ghost use Rattle.std.specs.Prelude.{◌≡◌, ◌+◌, ◌-◌, ◌<◌, ◌≤◌, length, take};
-ghost use Rattle.sheets.specs.Accepted.{groups_of, Accepted};
+ghost use Rattle.std.specs.Prelude.{◌≡◌, ◌+◌, ◌≤◌, length, take, MatchOption};
+ghost use Rattle.sheets.specs.Accepted.{groups_of};
 ghost use Rattle.sheets.specs.Sheets.{rest_at};
 ghost use Rattle.paths.specs.Children.{nodes_in};
 ghost use Rattle.walks.specs.Walk.{walk_group, walk_word};
 ghost use Rattle.tables.specs.WalkAnswers.{WalkedAs};
-ghost use Rattle.tables.specs.GroupStepLaws.{Stepped};
+ghost use Rattle.tables.specs.GroupStepLaws.{Outgrows, Stepped};
 ghost use Rattle.tables.specs.TryLaws.{Readable, PickedAs, picked, rules_of, obeys as obeys_of};
 
 use passing::pass;
 use paths::{deepest, held_at};
-use records::Record;
+use records::{Record, RuleRecord};
+use sheets::AcceptedSheet;
 
-// What is left of a number after another is taken away, or 0.
-fn less(one: usize, other: usize) -> usize
-    ensures { result ≡ one - other }
-{
-    if other < one { one - other } else { 0 }
-}
-
-// Whether the rule of this number, condition and ending is the one that a walk which found `found` obeys.
-fn obeys(
-    condition: u8,
-    ending: &[u8],
-    number: usize,
-    table: &[u16],
-    root: usize,
-    found: usize,
-    word: &[u8],
-) -> bool
-    requires { root < 65536 }
-    ensures { result ≡ obeys_of (nodes_in table.now) root found word.now number condition
-        ending.now }
-{
-    if number < found {
-        return false;
-    }
-    if found != held_at(table, root, ending) {
-        return false;
-    }
-    let part = less(word.len(), ending.len());
-    letters::holds(condition, &word[..part])
-}
-
-// A rule that was found in the sheet: its action, whether it opens, and the places of its letters. For none, `start` is 0.
-#[derive(Drop)]
-struct Found {
-    action: u8,
-    opens: u8,
-    start: usize,
-    middle: usize,
-    next: usize,
-}
-
-// No rule.
-fn nothing() -> Found
-    ensures { result.start ≡ 0 }
-{
-    Found {
-        action: 0,
-        opens: 0,
-        start: 0,
-        middle: 0,
-        next: 0,
-    }
-}
-
-// The rule that a walk which found `found` obeys, of those that stand from `at` up to the next group.
-fn tried_at(
-    sheet: &[u8],
-    at: usize,
-    groups: usize,
-    rules: usize,
-    table: &[u16],
-    root: usize,
-    found: usize,
-    word: &[u8],
-) -> Found
-    requires { Readable sheet.now at groups rules × ((at ≤ length sheet.now) × ((rules ≤ 128) × (root < 65536))) }
-    ensures { PickedAs sheet.now
-        (picked (nodes_in table.now) root found word.now (rules + 1)
-        (rules_of (rest_at sheet.now at groups rules)))
-        result.action result.opens result.start result.middle result.next }
-{
-    let mut place = at;
-    let mut number = rules;
-    while place < sheet.len() {
-        let record = pass(sheet, place);
-        match record {
-            Record::Group { gate: _, next: _ } => return nothing(),
-            Record::Rule {
-                condition,
-                action,
-                opens,
-                start,
-                middle,
-                next,
-            } => {
-                number += 1;
-                if obeys(
-                    condition,
-                    &sheet[start..middle],
-                    number,
-                    table,
-                    root,
-                    found,
-                    word,
-                ) {
-                    return Found {
-                        action,
-                        opens,
-                        start,
-                        middle,
-                        next,
-                    };
-                }
-                place = next;
-            }
-            Record::End => return nothing(),
-            Record::Faulty => return nothing(),
-        }
-    }
-    nothing()
-}
-
-// What a group leaves: the letters that stand first in the word's place, whether the next group is opened, and whether the
-// result fits the place.
-#[derive(Drop)]
+// What a group leaves: the letters that stand first in the word's place, and whether the next group is opened.
+#[derive(Clone, Copy)]
 struct Step {
     size: usize,
     opened: bool,
-    fits: bool,
 }
 
-// Walks a group, whose rules stand from `at` on, on the first `size` letters of the word.
-fn walk_group(
-    sheet: &[u8],
+// A group of a sheet that was accepted, and the table through which it is walked. Its rules stand from `at` on, behind so many rules
+// of other groups, and its root is the node of its own number.
+#[derive(Clone, Copy)]
+struct Group<'a> {
+    sheet: &'a [u8],
     at: usize,
-    groups: usize,
     rules: usize,
-    table: &[u16],
+    table: &'a [u16],
     root: usize,
-    word: &mut [u8],
-    size: usize,
-) -> Step
-    requires { Readable sheet.now at groups rules
-        × ((at ≤ length sheet.now) × ((rules ≤ 128) × ((root < 65536) × (size ≤ length word.old)))) }
-    ensures { Stepped
-        (walk_group (nodes_in table.now) root (rules + 1) (take size word.old)
-        (rules_of (rest_at sheet.now at groups rules)))
-        (length word.old) word.new result.size result.opened result.fits }
-{
-    let found = deepest(table, root, &word[..size]);
-    if found == 0 {
-        return Step {
+    ghost readable: { Readable sheet.now at (root + 1) rules },
+}
+
+impl<'a> Group<'a> {
+    // Whether the rule of this number, condition and ending is the one that a walk which found `found` obeys.
+    fn obeys(&self, found: usize, number: usize, condition: u8, ending: &[u8], word: &[u8]) -> bool
+        ensures { result ≡ obeys_of (nodes_in self.now.table.now) self.now.root found word.now number condition
+            ending.now }
+    {
+        let part = word.len().saturating_sub(ending.len());
+        found <= number
+            && found == held_at(self.table, self.root, ending)
+            && letters::holds(condition, &word[..part])
+    }
+
+    // The rule that a walk which found `found` obeys, of those of the group.
+    fn pick(&self, found: usize, word: &[u8]) -> Option<RuleRecord>
+        ensures { PickedAs self.now.sheet.now
+            (picked (nodes_in self.now.table.now) self.now.root found word.now (self.now.rules + 1)
+            (rules_of (rest_at self.now.sheet.now self.now.at (self.now.root + 1) self.now.rules)))
+            result }
+    {
+        let mut place = self.at;
+        let mut number = self.rules;
+        while let Some(record) = pass(self.sheet, place) {
+            let Record::Rule(rule) = record else {
+                return None;
+            };
+            number += 1;
+            let ending = &self.sheet[rule.start..rule.middle];
+            if self.obeys(found, number, rule.condition, ending, word) {
+                return Some(rule);
+            }
+            place = rule.next;
+        }
+        None
+    }
+
+    // Walks the group on the first `size` letters of the word. None where the result does not fit the word's place.
+    fn walk(&self, word: &mut [u8], size: usize) -> Option<Step>
+        requires { size ≤ length word.old }
+        ensures { let step = walk_group (nodes_in self.now.table.now) self.now.root (self.now.rules + 1) (take size word.old)
+            (rules_of (rest_at self.now.sheet.now self.now.at (self.now.root + 1) self.now.rules)) in
+            MatchOption result (Outgrows step (length word.old))
+            (λ left. Stepped step (length word.old) word.new left.size left.opened) }
+    {
+        let unchanged = Step {
             size,
             opened: false,
-            fits: true,
         };
-    }
-    let rule = tried_at(sheet, at, groups, rules, table, root, found, &word[..size]);
-    let start = rule.start;
-    if start == 0 {
-        return Step {
-            size,
-            opened: false,
-            fits: true,
+        let found = deepest(self.table, self.root, &word[..size]);
+        if found == 0 {
+            return Some(unchanged);
+        }
+        let Some(rule) = self.pick(found, &word[..size]) else {
+            return Some(unchanged);
         };
-    }
-    let middle = rule.middle;
-    let part = less(size, middle - start);
-    let opened = rule.opens == 1;
-    if rule.action != 0 {
-        return Step {
-            size: less(part, 1),
-            opened,
-            fits: true,
-        };
-    }
-    let next = rule.next;
-    let added = next - middle;
-    if word.len() - part < added {
-        return Step {
-            size,
-            opened,
-            fits: false,
-        };
-    }
-    places::put(word, part, &sheet[middle..next]);
-    Step {
-        size: part + added,
-        opened,
-        fits: true,
+        let part = size.saturating_sub(rule.middle - rule.start);
+        let opened = rule.opens == 1;
+        if rule.action != 0 {
+            let size = part.saturating_sub(1);
+            return Some(Step { size, opened });
+        }
+        let added = rule.next - rule.middle;
+        if word.len() - part < added {
+            return None;
+        }
+        places::put(word, part, &self.sheet[rule.middle..rule.next]);
+        let size = part + added;
+        Some(Step { size, opened })
     }
 }
 
-// What walking all groups leaves: so many letters, which stand first in the word's place, or a result that does not fit it.
-#[derive(Drop)]
-pub(crate) enum Walked {
-    Left(usize),
-    Outgrown,
-}
-
-// Walks all groups of a sheet on a word, in its own place.
-pub(crate) fn walk_groups(sheet: &[u8], table: &[u16], word: &mut [u8]) -> Walked
-    requires { Accepted sheet.now }
-    ensures { WalkedAs (walk_word (nodes_in table.now) (groups_of sheet.now) word.old)
+// Walks all groups of a sheet on a word, in its own place: so many letters are left, which stand first there. None where a group's
+// result does not fit the place.
+pub(crate) fn walk_groups(sheet: AcceptedSheet<'_>, table: &[u16], word: &mut [u8]) -> Option<usize>
+    ensures { WalkedAs (walk_word (nodes_in table.now) (groups_of sheet.entry.bytes.now) word.old)
         result word.new }
 {
+    let bytes = sheet.bytes;
     let mut at = 0;
     let mut groups = 0;
     let mut rules = 0;
     let mut opened = false;
     let mut size = word.len();
-    while at < sheet.len() {
-        let found = pass(sheet, at);
-        match found {
+    while let Some(record) = pass(bytes, at) {
+        match record {
             Record::Group { gate, next } => {
                 let root = groups;
-                at = next;
                 groups += 1;
+                at = next;
+                // A group that is not run was not opened, and opens none.
                 if (gate == 0) | opened {
-                    let step = walk_group(sheet, at, groups, rules, table, root, word, size);
-                    if !step.fits {
-                        return Walked::Outgrown;
-                    }
+                    let group = Group {
+                        sheet: bytes,
+                        at,
+                        rules,
+                        table,
+                        root,
+                    };
+                    let step = group.walk(word, size)?;
                     size = step.size;
                     opened = step.opened;
-                } else {
-                    opened = false;
                 }
             }
-            Record::Rule {
-                condition: _,
-                action: _,
-                opens: _,
-                start: _,
-                middle: _,
-                next,
-            } => {
+            Record::Rule(rule) => {
                 rules += 1;
-                at = next;
+                at = rule.next;
             }
-            Record::End => return Walked::Left(size),
-            Record::Faulty => return Walked::Outgrown,
+            Record::End => return Some(size),
         }
     }
-    Walked::Outgrown
+    None
 }

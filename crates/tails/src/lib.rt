@@ -2,29 +2,21 @@
 // sheet. No table is built.
 #![tactic(auto)]
 
-ghost use Rattle.std.specs.Prelude.{◌≡◌, max, drop};
+ghost use Rattle.std.specs.Prelude.{◌≡◌, max, eqb, drop, length, take_while, reverse};
+ghost use Rattle.std.specs.List.{zip};
 ghost use Rattle.paper.specs.Nodes.{tails};
 ghost use Rattle.paper.specs.LookBack.{shared};
 ghost use Rattle.tails.specs.Earlier.{tails_in};
 
-use records::framing::{Frame, frame_at};
+use records::framing::frame_at;
 use records::rules::ending_in;
 
-// How long the longest tail is that two endings share.
+// How long the longest tail is that two endings share: how many letters are the same from the last one on.
 fn shared_tail(one: &[u8], other: &[u8]) -> usize
-    ensures { result ≡ shared one.now (tails other.now) }
+    ensures { result ≡ length (take_while (λ p. eqb p.0 p.1) (zip (reverse one.now) (reverse other.now))) }
 {
-    let mut k = 0;
-    while k < one.len() {
-        if k >= other.len() {
-            return k;
-        }
-        if one[one.len() - 1 - k] != other[other.len() - 1 - k] {
-            return k;
-        }
-        k += 1;
-    }
-    k
+    let from_the_end = one.iter().rev().zip(other.iter().rev());
+    from_the_end.take_while(|p| *p.0 == *p.1).count()
 }
 
 // The longer of `least` and of the longest tail that two endings share. A longer one is looked for only where the letter
@@ -32,20 +24,13 @@ fn shared_tail(one: &[u8], other: &[u8]) -> usize
 fn longer(one: &[u8], other: &[u8], least: usize) -> usize
     ensures { result ≡ max least (shared one.now (tails other.now)) }
 {
-    if least >= one.len() {
+    if least >= one.len()
+        || least >= other.len()
+        || one[one.len() - 1 - least] != other[other.len() - 1 - least]
+    {
         return least;
     }
-    if least >= other.len() {
-        return least;
-    }
-    if one[one.len() - 1 - least] != other[other.len() - 1 - least] {
-        return least;
-    }
-    let all = shared_tail(one, other);
-    if all <= least {
-        return least;
-    }
-    all
+    least.max(shared_tail(one, other))
 }
 
 // How long the longest tail is that an ending shares with those of the `count` rules that stand from `first` on.
@@ -53,22 +38,14 @@ pub fn longest_shared(sheet: &[u8], first: usize, count: usize, ending: &[u8]) -
     ensures { result ≡ shared ending.now (tails_in count (drop first sheet.now)) }
 {
     let mut place = first;
-    let mut left = count;
     let mut longest = 0;
-    while left > 0 {
-        let frame = frame_at(sheet, place);
-        match frame {
-            Frame::Cut => return longest,
-            Frame::Whole {
-                kind: _,
-                body,
-                next,
-            } => {
-                longest = longer(ending, ending_in(&sheet[body..next]), longest);
-                place = next;
-                left -= 1;
-            }
-        }
+    for _ in 0..count {
+        let Some(frame) = frame_at(sheet, place) else {
+            return longest;
+        };
+        let earlier = ending_in(&sheet[frame.body..frame.next]);
+        longest = longer(ending, earlier, longest);
+        place = frame.next;
     }
     longest
 }

@@ -1,11 +1,10 @@
 -- What holds of every call on a text, by any word rule: it is refused exactly over 65,536 bytes. Its counts and its length are in proofs/.
-use Rattle.std.specs.Prelude.{ℕ, ◌≤◌, ◌<◌, ◌≡◌, refl, ◌↔◌, ◌⊎◌, List, ltb, length}
+use Rattle.std.specs.Prelude.{ℕ, ◌≤◌, ◌<◌, ◌≡◌, refl, ◌↔◌, ◌⊎◌, Ok, Err, List, ltb, length}
 use Rattle.std.proofs.Common.{ap, inl, inr, arith, ltb-true, ltb-false, lt-ltb, le-ltb}
 use Rattle.paper.specs.Groups.{Reading}
 use Rattle.paper.specs.TestLaws.{by_test}
 use Rattle.texts.specs.Texts.{Outcome, run_text, refused, finished, text_outcome}
-use Rattle.texts.specs.TextAnswers.{Answered}
-use Rattle.answers.specs.declared.TextRun.TheVariants.{Done, TooLong}
+use Rattle.texts.specs.TextAnswers.{Answered, counts}
 
 module _ (rule : List ℕ → Reading) (text : List ℕ) where
   pub refused_over : 65536 < length text → text_outcome rule text ≡ refused text
@@ -27,13 +26,13 @@ module _ (rule : List ℕ → Reading) (text : List ℕ) where
 
   -- ## What a call gives, by the text's length
 
-  pub gives_refused : 65536 < length text → Answered (text_outcome rule text) TooLong text
+  pub gives_refused : 65536 < length text → Answered (text_outcome rule text) (Err (record {})) text
   gives_refused long =
       rw (refused_over long) (record { number_is = refl; stemmed_is = refl; left_is = refl; text_is = refl })
 
   pub gives_done : {after : List ℕ} {stemmed left : ℕ} → length text ≤ 65536
       → run_text rule text ≡ record { text = after; stemmed = stemmed; left = left }
-      → Answered (text_outcome rule text) (Done stemmed left) after
+      → Answered (text_outcome rule text) (Ok (counts stemmed left)) after
   gives_done short ran =
       rw (finished_within short, ran) (record { number_is = refl; stemmed_is = refl; left_is = refl; text_is = refl })
 

@@ -11,17 +11,15 @@ ghost use Rattle.texts.specs.Texts.{of_word, stemmed_to, text_outcome};
 ghost use Rattle.texts.specs.TextAnswers.{Answered, AnsweredListed};
 ghost use Rattle.texts.specs.ListedTexts.{rule_with, listed_text};
 
-use answers::{ListChecked, ListedText, TextRun};
+use answers::{Counts, ListedRefusal, TooLong};
 
 // The letters of a word made small, where they stand.
 fn make_small(word: &mut [u8])
     requires { all_letters word.old ≡ true }
     ensures { word.new ≡ map lowered word.old }
 {
-    let mut at = 0;
-    while at < word.len() {
-        word[at] = word[at] | 32;
-        at += 1;
+    for byte in word.iter_mut() {
+        *byte |= 32;
     }
 }
 
@@ -37,24 +35,24 @@ fn stem_word(list: &[u8], word: &mut [u8], small: bool)
         make_small(word);
     }
     // without a list nothing is looked up: the calls on the way to that would take 1 to 2 % of a text's time
-    if list.len() == 0 {
-        words::stem(word);
+    if list.is_empty() {
+        let _ = words::stem(word);
         return;
     }
-    exceptions::stem_by(list, word);
+    let _ = exceptions::stem_by(list, word);
 }
 
 // The words of a text, each rewritten where it stands, by lending only that part of the text; with a list that was judged before, or
 // no bytes for no list.
-fn rewrite(list: &[u8], text: &mut [u8]) -> TextRun
+fn rewrite(list: &[u8], text: &mut [u8]) -> Result<Counts, TooLong>
     ensures { Answered (text_outcome (rule_with list.now) text.old) result text.new }
 {
     if 65536 < text.len() {
-        return TextRun::TooLong;
+        return Err(TooLong);
     }
-    let mut stemmed: usize = 0;
-    let mut left: usize = 0;
-    let mut at: usize = 0;
+    let mut stemmed = 0;
+    let mut left = 0;
+    let mut at = 0;
     while at < text.len() {
         let start = pieces::next_word_at(&text[..], at);
         let next = pieces::word_run(&text[..], start);
@@ -67,23 +65,20 @@ fn rewrite(list: &[u8], text: &mut [u8]) -> TextRun
         }
         at = end;
     }
-    TextRun::Done { stemmed, left }
+    Ok(Counts { stemmed, left })
 }
 
 // The text run.
-pub fn run(text: &mut [u8]) -> TextRun
+pub fn run(text: &mut [u8]) -> Result<Counts, TooLong>
     ensures { Answered (text_outcome (stem shipped) text.old) result text.new }
 {
     rewrite(&[], text)
 }
 
 // The text run with an exception list, which is judged once: 10 comes before 5.
-pub fn run_listed(list: &[u8], text: &mut [u8]) -> ListedText
+pub fn run_listed(list: &[u8], text: &mut [u8]) -> Result<Counts, ListedRefusal<TooLong>>
     ensures { AnsweredListed (listed_text (stem shipped) list.now text.old) result text.new }
 {
-    let judged = lists::check(list);
-    match judged {
-        ListChecked::Refused(place) => ListedText::Refused(place),
-        ListChecked::Accepted(_) => ListedText::Text(rewrite(list, text)),
-    }
+    lists::check(list)?;
+    rewrite(list, text).map_err(ListedRefusal::Call)
 }

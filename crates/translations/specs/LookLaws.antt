@@ -1,5 +1,5 @@
 -- Looking through the rules of a group for a tail, record by record.
-use Rattle.std.specs.Prelude.{ℕ, ◌+◌, ◌-◌, ◌≤◌, ◌<◌, ◌≡◌, refl, Bool, true, false, cond, List, [], ◌∷◌, eqb, length, take, drop, get_or, replicate}
+use Rattle.std.specs.Prelude.{Some, ℕ, ◌+◌, ◌-◌, ◌≤◌, ◌<◌, ◌≡◌, refl, Bool, true, false, cond, List, [], ◌∷◌, eqb, length, take, drop, get_or, replicate}
 use Rattle.std.proofs.Common.{◌∙◌, add-one, arith, drop-drop}
 use Rattle.std.proofs.lemmas.List.{get_or-replicate}
 use borrow.Author.Tests.{ne_eqb, eqb-true}
@@ -118,10 +118,10 @@ module _ {sheet : List ℕ} {before : ℕ} {list : List Rule} {tail : List ℕ} 
         says = rw none at state.says;
       }
 
-  pub looking_group : {gate next : ℕ} → passed_at sheet at ≡ GroupRecord gate next → Looked sheet before list tail rule ends
+  pub looking_group : {gate next : ℕ} → passed_at sheet at ≡ Some (GroupRecord gate next) → Looked sheet before list tail rule ends
   looking_group here = over (group_next state.reads.holds here).none_before
 
-  pub looking_end : passed_at sheet at ≡ EndRecord → Looked sheet before list tail rule ends
+  pub looking_end : passed_at sheet at ≡ Some EndRecord → Looked sheet before list tail rule ends
   looking_end here = over (end_next state.reads.holds here).0
 
   module _ {c a o start middle after : ℕ} (found : RuleNext state.reads.holds c a o start middle after) where

@@ -1,5 +1,5 @@
 -- Storing the roots, record by record of the sheet.
-use Rattle.std.specs.Prelude.{ℕ, ◌+◌, ◌*◌, ◌≤◌, ◌≡◌, refl, List, [], ◌∷◌, ◌++◌}
+use Rattle.std.specs.Prelude.{Some, ℕ, ◌+◌, ◌*◌, ◌≤◌, ◌≡◌, refl, List, [], ◌∷◌, ◌++◌}
 use Rattle.std.proofs.Math.Path.{sym, ap}
 use Rattle.std.proofs.Common.{◌∙◌, append_assoc, append-nil, zero-add, arith, length-append}
 use Rattle.std.proofs.Math.ListN.{length}
@@ -130,7 +130,7 @@ module _ {sheet table : List ℕ} {at count rules : ℕ} (state : Rooting sheet 
         room = state.room;
       }
 
-  pub rooting_end : Accepted sheet → passed_at sheet at ≡ EndRecord → Midway sheet table 0 count
+  pub rooting_end : Accepted sheet → passed_at sheet at ≡ Some EndRecord → Midway sheet table 0 count
   unfolding roots table_of
   rooting_end accepted here =
       let over = end_next state.holds here in

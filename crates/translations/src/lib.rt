@@ -9,24 +9,20 @@ mod laying_out;
 mod looks;
 mod rows;
 
-use answers::{Checked, Translated};
+use answers::TranslationRefusal;
 use laying_out::lay;
+use sheets::AcceptedSheet;
 
-// Translates a sheet to a table.
-pub fn translate(sheet: &[u8], table: &mut [u16]) -> Translated
+// Translates a sheet to a table, and counts the nodes that it lays out.
+pub fn translate(sheet: &[u8], table: &mut [u16]) -> Result<usize, TranslationRefusal>
     ensures { Gives (translation sheet.now table.old)
         (number_of_translated result) (value_of_translated result) table.new }
 {
-    let found = sheets::check(sheet);
-    match found {
-        Checked::Refused(place) => Translated::Refused(place),
-        Checked::Accepted { nodes, groups: _ } => {
-            let end = 4 * nodes;
-            if table.len() < end {
-                return Translated::Short;
-            }
-            lay(sheet, &mut table[..end]);
-            Translated::Nodes(nodes)
-        }
+    let counts = sheets::check(sheet)?;
+    let end = 4 * counts.nodes;
+    if table.len() < end {
+        return Err(TranslationRefusal::Short);
     }
+    lay(AcceptedSheet { bytes: sheet }, &mut table[..end]);
+    Ok(counts.nodes)
 }

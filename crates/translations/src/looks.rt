@@ -5,7 +5,6 @@ ghost use Rattle.translations.specs.Looking.{Noted, Reads, SomeRules, Looked};
 
 use crate::rows::put;
 use letters::ends_with;
-use numbers::wide;
 use passing::pass;
 use paths::number_at;
 use records::Record;
@@ -35,7 +34,7 @@ fn note(ending: &[u8], end: usize, tail: &[u8], ends: &mut [u16])
     if !ends_with(ending, tail) {
         return;
     }
-    let letter = wide(ending[ending.len() - long - 1]);
+    let letter = usize::from(ending[ending.len() - long - 1]);
     if letter < 97 {
         return;
     }
@@ -57,25 +56,17 @@ pub(crate) fn look(sheet: &[u8], from: usize, before: usize, tail: &[u8], ends: 
     let mut at = from;
     let mut number = before;
     let mut rule = 0;
-    while at < sheet.len() {
-        let found = pass(sheet, at);
-        match found {
-            Record::Rule {
-                condition: _,
-                action: _,
-                opens: _,
-                start,
-                middle,
-                next,
-            } => {
+    while let Some(record) = pass(sheet, at) {
+        match record {
+            Record::Rule(found) => {
+                let ending = &sheet[found.start..found.middle];
                 number += 1;
-                rule = first_with(rule, number, &sheet[start..middle], tail);
-                note(&sheet[start..middle], middle, tail, ends);
-                at = next;
+                rule = first_with(rule, number, ending, tail);
+                note(ending, found.middle, tail, ends);
+                at = found.next;
             }
             Record::Group { gate: _, next: _ } => return rule,
             Record::End => return rule,
-            Record::Faulty => return rule,
         }
     }
     rule

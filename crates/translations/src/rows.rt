@@ -2,8 +2,6 @@
 ghost use Rattle.std.specs.Prelude.{◌≡◌, ◌+◌, ◌<◌, length, set};
 ghost use Rattle.translations.specs.Storing.{put_row, put_each, how_many};
 
-use paths::number_at;
-
 // Stores a number, if the list has this place.
 pub(crate) fn put(list: &mut [u16], place: usize, number: usize)
     requires { number < 65536 }
@@ -47,12 +45,9 @@ pub(crate) fn put_each(
     ensures table_after { table.new ≡ put_each depth from before ends.now next table.old }
 {
     let mut at = next;
-    let mut k = 0;
-    while k < ends.len() {
-        let end = number_at(ends, k);
-        k += 1;
+    for &end in ends {
         if end != 0 {
-            put_row(table, at, depth, from, end, before);
+            put_row(table, at, depth, from, usize::from(end), before);
             at += 1;
         }
     }

@@ -1,5 +1,5 @@
 -- One answer for every list, and when it is which: 11, all right, or a first wrong line.
-use Rattle.std.specs.Prelude.{ℕ, suc, ◌≤◌, ◌≡◌, refl, true, false, ◌↔◌, List, [], ◌∷◌, ◌++◌, length}
+use Rattle.std.specs.Prelude.{ℕ, Result, suc, ◌≤◌, ◌≡◌, refl, true, false, ◌↔◌, List, [], ◌∷◌, ◌++◌, length}
 use Rattle.std.proofs.Common.{sym, ap, ◌∙◌, true≢false, append-nil, arith}
 use Rattle.paper.specs.Answered.{SmallWord}
 use Rattle.paper.specs.Groups.{done}
@@ -14,7 +14,7 @@ use Rattle.paper.specs.TestLaws.{and_parts, by_test}
 use Rattle.paper.specs.Words.{stem}
 use Rattle.answers.specs.Answers.{Said, says_vocabulary}
 use Rattle.answers.specs.AnswerLaws.{vocabulary_one}
-use Rattle.answers.specs.declared.VocabularyChecked.{VocabularyChecked}
+use Rattle.answers.specs.declared.MisformedLine.{MisformedLine}
 use Rattle.printed.specs.Printed.{text_of, all_taken, Whole, FirstFault}
 use Rattle.printed.specs.PrintedLaws.{all_of, at_end}
 use Rattle.printed.specs.LineNumbers.{Lined, all_lines, fault_at, lined, not_both, one_number, same_lines, lines_fit, fault_within, forms}
@@ -32,7 +32,7 @@ checks_one (well-formed pairs whole) (well-formed others also) =
     ap (λ (l : List Pair). said 0 (number_of wrong 1 l)) (same_lines reads of_form whole also)
 
 -- so the contract of the check settles its answer
-pub checked_one : {list : List ℕ} (one other : VocabularyChecked) → Checks list (says_vocabulary one) → Checks list (says_vocabulary other)
+pub checked_one : {list : List ℕ} (one other : Result ℕ MisformedLine) → Checks list (says_vocabulary one) → Checks list (says_vocabulary other)
     → one ≡ other
 checked_one one other a b = vocabulary_one one other (checks_one a b)
 

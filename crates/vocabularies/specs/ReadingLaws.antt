@@ -1,5 +1,5 @@
 -- A line is found exactly where one is printed with its line feed.
-use Rattle.std.specs.Prelude.{ℕ, ◌+◌, ◌≤◌, ◌<◌, ◌≡◌, refl, true, false, not, ◌&&◌, List, [], ◌∷◌, ◌++◌, eqb, leb, ltb, length, take, drop, get_or}
+use Rattle.std.specs.Prelude.{ℕ, ◌+◌, ◌≤◌, ◌<◌, ◌≡◌, refl, true, false, not, ◌&&◌, Option, Some, None, List, [], ◌∷◌, ◌++◌, eqb, leb, ltb, length, take, drop, get_or}
 use Rattle.std.proofs.Common.{sym, ap, ◌∙◌, append_assoc, arith, take-append-drop, length-append, length-drop, drop_of_length-le, drop-cons, drop-drop, length-take-le}
 use Rattle.std.proofs.Math.Bool.{and-false}
 use Rattle.std.proofs.lemmas.Bool.{false≢true}
@@ -11,36 +11,33 @@ use Rattle.paper.specs.Words.{small, all_small, first_other, wrong_length}
 use Rattle.paper.specs.WordsLaws.{first_small, first_inside, first_behind}
 use Rattle.printed.specs.PrintedLaws.{got, Reads}
 use Rattle.vocabularies.specs.Vocabularies.{Pair, print, form, taken}
-use Rattle.vocabularies.specs.Reading.{begins_with, letters_before, by_stem, by_word, found_in, pair_in, size, told, read_line}
-use Rattle.vocabularies.specs.declared.Letters.{Letters}
-use Rattle.vocabularies.specs.declared.Letters.TheVariants.{Before, Nothing}
-use Rattle.vocabularies.specs.declared.Found.{Found}
-use Rattle.vocabularies.specs.declared.Found.TheVariants.{Line, Wrong}
+use Rattle.vocabularies.specs.Reading.{begins_with, letters_before, by_stem, by_word, lengths, found_in, pair_in, size, told, read_line}
+use Rattle.vocabularies.specs.declared.Lengths.{Lengths}
 
 -- ## Letters, and the byte behind them
 pub letters_read : (close : ℕ) (word more : List ℕ) → small close ≡ false → length word ≤ 64 → all_small word ≡ true
-    → letters_before close (word ++ (close ∷ more)) ≡ Before (length word)
+    → letters_before close (word ++ (close ∷ more)) ≡ Some (length word)
 unfolding letters_before begins_with
 letters_read close word more other few all =
     rw (first_behind word close more all other, le-leb (length word) 64 few, drop-append_seam word (close ∷ more), eq-eqb close close refl)
 
 -- by the place of the first byte that is no small letter
 module _ (close : ℕ) (rest : List ℕ) where
-  pub too_many : 64 < first_other rest → letters_before close rest ≡ Nothing
+  pub too_many : 64 < first_other rest → letters_before close rest ≡ None
   unfolding letters_before
   too_many many = rw (lt-leb (first_other rest) 64 many)
 
-  pub none_behind : length rest ≤ first_other rest → letters_before close rest ≡ Nothing
+  pub none_behind : length rest ≤ first_other rest → letters_before close rest ≡ None
   unfolding letters_before begins_with
   none_behind end = rw (drop_of_length-le rest end, and-false (leb (first_other rest) 64))
 
   module _ (inside : first_other rest < length rest) where
-    pub close_behind : first_other rest ≤ 64 → get_or rest (first_other rest) 0 ≡ close → letters_before close rest ≡ Before (first_other rest)
+    pub close_behind : first_other rest ≤ 64 → get_or rest (first_other rest) 0 ≡ close → letters_before close rest ≡ Some (first_other rest)
     unfolding letters_before begins_with
     close_behind few is =
         rw (drop-cons rest (first_other rest) 0 inside, le-leb (first_other rest) 64 few, eq-eqb (get_or rest (first_other rest) 0) close is)
 
-    pub other_behind : (get_or rest (first_other rest) 0 ≡ close → ⊥) → letters_before close rest ≡ Nothing
+    pub other_behind : (get_or rest (first_other rest) 0 ≡ close → ⊥) → letters_before close rest ≡ None
     unfolding letters_before begins_with
     other_behind is =
         let n = first_other rest in
@@ -58,14 +55,14 @@ unfolding begins_with
 begins byte [] is = apart (cc)
 begins byte (first ∷ more) is = rw (eqb-true first byte is) refl
 
-pub letters_here : (close : ℕ) (rest : List ℕ) (count : ℕ) → letters_before close rest ≡ Before count → LettersHere close rest count
+pub letters_here : (close : ℕ) (rest : List ℕ) (count : ℕ) → letters_before close rest ≡ Some count → LettersHere close rest count
 unfolding letters_before
 letters_here close rest count is =
     let n = first_other rest in
     by_test (leb n 64 && begins_with close (drop n rest))
     (λ so.
     let both = and_parts (leb n 64) (begins_with close (drop n rest)) so in
-    let found : Before n ≡ Before count = sym (rw so refl) ∙ is in
+    let found : Some n ≡ Some count = sym (rw so refl) ∙ is in
     let same : n ≡ count = cc in
     let behind = begins close (drop n rest) both.1 in
     let whole : rest ≡ take n rest ++ (close ∷ drop (n + 1) rest) =
@@ -78,7 +75,7 @@ letters_here close rest count is =
       small_there = first_small rest;
       rest_is = whole;
     }))
-    (λ is-not. let no : Nothing ≡ Before count = sym (rw is-not refl) ∙ is in apart (cc))
+    (λ is-not. let no : None ≡ Some count = sym (rw is-not refl) ∙ is in apart (cc))
 
 -- ## A line
 -- the form, by its parts
@@ -153,16 +150,16 @@ complete one more is =
 
 -- by what stands before the space, and before the line feed
 module _ (rest : List ℕ) where
-  pub no_space : letters_before 32 rest ≡ Nothing → found_in rest ≡ Wrong
+  pub no_space : letters_before 32 rest ≡ None → found_in rest ≡ None
   unfolding found_in
   no_space is = rw is
 
-  module _ {word : ℕ} (is : letters_before 32 rest ≡ Before word) where
-    pub no_word : word ≡ 0 → found_in rest ≡ Wrong
+  module _ {word : ℕ} (is : letters_before 32 rest ≡ Some word) where
+    pub no_word : word ≡ 0 → found_in rest ≡ None
     unfolding found_in
     no_word none = rw (is, eq-eqb word 0 none)
 
-    pub by_stem_lem : (word ≡ 0 → ⊥) → (found : Letters) → letters_before 10 (drop (word + 1) rest) ≡ found → found_in rest ≡ by_stem word found
+    pub by_stem_lem : (word ≡ 0 → ⊥) → (found : Option ℕ) → letters_before 10 (drop (word + 1) rest) ≡ found → found_in rest ≡ by_stem word found
     unfolding found_in
     by_stem_lem is_one found stem_is = rw (is, ne_eqb word 0 is_one, stem_is)
 
@@ -199,37 +196,38 @@ both_here rest word stem one other is_one =
       size_inside = omega (arith, one.inside, other.inside, length-drop (word + 1) rest);
     }
 
-pub line_here : (rest : List ℕ) (word stem : ℕ) → found_in rest ≡ Line word stem → LineHere rest word stem
+pub line_here : (rest : List ℕ) (word stem : ℕ) → found_in rest ≡ Some (lengths word stem) → LineHere rest word stem
 unfolding found_in print
 line_here rest word stem is = by (letters_before 32 rest) refl is
   where
-    after : (n : ℕ) → letters_before 32 rest ≡ Before n → eqb n 0 ≡ false → (found : Letters) → letters_before 10 (drop (n + 1) rest) ≡ found
-        → by_stem n found ≡ Line word stem → LineHere rest word stem
-    after n first is_one (Before k) second e =
-        let same : n ≡ word = cc in
-        let also : k ≡ stem = cc in
+    after : (n : ℕ) → letters_before 32 rest ≡ Some n → eqb n 0 ≡ false → (found : Option ℕ) → letters_before 10 (drop (n + 1) rest) ≡ found
+        → by_stem n found ≡ Some (lengths word stem) → LineHere rest word stem
+    after n first is_one (Some k) second e =
+        let line : lengths n k ≡ lengths word stem = cc in
+        let same : n ≡ word = ap (λ (l : Lengths). l.word) line in
+        let also : k ≡ stem = ap (λ (l : Lengths). l.stem) line in
         let there = letters_here 10 (drop (n + 1) rest) k second in
         rw (← same, ← also) (both_here rest n k (letters_here 32 rest n first) there (eqb-false n 0 is_one))
-    after n first is_one Nothing second e = apart (cc)
+    after n first is_one None second e = apart (cc)
 
-    by : (found : Letters) → letters_before 32 rest ≡ found → by_word rest found ≡ Line word stem → LineHere rest word stem
-    by (Before n) first e =
-        by_test (eqb n 0) (λ none. let no : Wrong ≡ Line word stem = sym (rw none refl) ∙ e in apart (cc))
+    by : (found : Option ℕ) → letters_before 32 rest ≡ found → by_word rest found ≡ Some (lengths word stem) → LineHere rest word stem
+    by (Some n) first e =
+        by_test (eqb n 0) (λ none. let no : None ≡ Some (lengths word stem) = sym (rw none refl) ∙ e in apart (cc))
         (λ is_one. after n first is_one (letters_before 10 (drop (n + 1) rest)) refl (sym (rw is_one refl) ∙ e))
-    by Nothing first e = apart (cc)
+    by None first e = apart (cc)
 
 sound : (rest : List ℕ) (one : Pair) (more : List ℕ) → read_line rest ≡ got one more
     → (form one ≡ true) × (rest ≡ print one ++ (10 ∷ more))
 unfolding read_line
 sound rest one more is = by (found_in rest) refl is
   where
-    by : (found : Found) → found_in rest ≡ found → told rest found ≡ got one more → (form one ≡ true) × (rest ≡ print one ++ (10 ∷ more))
-    by (Line word stem) found e =
-        let here = line_here rest word stem found in
-        let this : pair_in rest word stem ≡ one = cc in
-        let behind : drop (size word stem) rest ≡ more = cc in
+    by : (found : Option Lengths) → found_in rest ≡ found → told rest found ≡ got one more → (form one ≡ true) × (rest ≡ print one ++ (10 ∷ more))
+    by (Some line) found e =
+        let here = line_here rest line.word line.stem found in
+        let this : pair_in rest line.word line.stem ≡ one = cc in
+        let behind : drop (size line.word line.stem) rest ≡ more = cc in
         (rw (← this) (parts_form _ here.of_form), rw (← this, ← behind) here.printed)
-    by Wrong found e = apart (cc)
+    by None found e = apart (cc)
 
 -- the reader finds a line of the form exactly where its printed text and a line feed stand
 pub reads : Reads print form read_line

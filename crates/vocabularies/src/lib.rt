@@ -9,53 +9,39 @@ ghost use Rattle.vocabularies.specs.Vocabularies.{pair, wrong, Checks};
 ghost use Rattle.vocabularies.specs.Reading.{letters_before, found_in};
 ghost use Rattle.vocabularies.specs.StemLaws.{noted_after};
 
-use answers::VocabularyChecked;
+use answers::MisformedLine;
 
-// What bytes begin with: so many small letters, at most 64, and then a certain byte.
-#[derive(Drop)]
-pub enum Letters {
-    Before(usize),
-    Nothing,
-}
+// The most letters that a word or a stem has.
+const MOST: usize = 64;
 
-fn letters_before(close: u8, rest: &[u8]) -> Letters
+// How many small letters bytes begin with, where there are no more than that and this byte stands behind them.
+fn letters_before(close: u8, rest: &[u8]) -> Option<usize>
     ensures { result ≡ letters_before close rest.now }
 {
     let count = pieces::first_other(rest);
-    if 64 < count {
-        return Letters::Nothing;
+    if count <= MOST && count < rest.len() && rest[count] == close {
+        return Some(count);
     }
-    if rest.len() <= count {
-        return Letters::Nothing;
-    }
-    if rest[count] == close {
-        return Letters::Before(count);
-    }
-    Letters::Nothing
+    None
 }
 
-// The line with which bytes begin: so many letters of the word, and so many of the stem.
-#[derive(Drop)]
-pub enum Found {
-    Line { word: usize, stem: usize },
-    Wrong,
+// How many letters the word of a line has, and how many its stem.
+#[derive(Clone, Copy)]
+pub struct Lengths {
+    pub word: usize,
+    pub stem: usize,
 }
 
-fn line(rest: &[u8]) -> Found
+// The line with which bytes begin.
+fn line(rest: &[u8]) -> Option<Lengths>
     ensures { result ≡ found_in rest.now }
 {
-    match letters_before(32, rest) {
-        Letters::Before(word) => {
-            if word == 0 {
-                return Found::Wrong;
-            }
-            match letters_before(10, &rest[word + 1..]) {
-                Letters::Before(stem) => Found::Line { word, stem },
-                Letters::Nothing => Found::Wrong,
-            }
-        }
-        Letters::Nothing => Found::Wrong,
+    let word = letters_before(b' ', rest)?;
+    if word == 0 {
+        return None;
     }
+    let stem = letters_before(b'\n', &rest[word + 1..])?;
+    Some(Lengths { word, stem })
 }
 
 // Whether the stem given for a word is another than its own, which is written in a place as long as the word.
@@ -65,49 +51,42 @@ fn differs(place: &mut [u8], word: &[u8], stem: &[u8]) -> bool
     ensures { result ≡ wrong (pair word.now stem.now) }
 {
     places::put(place, 0, word);
-    // the word is one that is done, so the value is its stem's length
-    let length = answers::of_word(words::stem(place)).value;
-    if length != stem.len() {
-        return true;
+    match words::stem(place) {
+        Ok(length) => &place[..length] != stem,
+        Err(_) => true,
     }
-    !letters::ends_with(&place[..length], stem)
 }
 
-// The number of the first wrong line, or 0, after a line more, which has this number. Behind a wrong line no stem is asked for.
-fn noted(first: usize, number: usize, word: &[u8], stem: &[u8]) -> usize
+// The number of the first wrong line, if any, after a line more, which has this number. Behind a wrong line no stem is asked for.
+fn noted(first: Option<usize>, number: usize, word: &[u8], stem: &[u8]) -> Option<usize>
     requires { judged word.now ≡ taken }
     ensures { result ≡ noted_after first number (pair word.now stem.now) }
 {
-    if first != 0 {
+    if first.is_some() {
         return first;
     }
-    let mut space = [0u8; 64];
-    let size = word.len();
-    if differs(&mut space[..size], word, stem) {
-        return number;
-    }
-    0
+    let mut space = [0u8; MOST];
+    differs(&mut space[..word.len()], word, stem).then_some(number)
 }
 
 // One way through the lines. A wrong line is noted, and those behind it are judged by their form: 11 comes before any stem.
-pub fn check(list: &[u8]) -> VocabularyChecked
+pub fn check(list: &[u8]) -> Result<usize, MisformedLine>
     ensures { Checks list.now (says_vocabulary result) }
 {
-    let mut at = 0;
-    let mut passed = 0;
-    let mut first_wrong = 0;
-    while at < list.len() {
-        let rest = &list[at..];
-        let number = passed + 1;
-        match line(rest) {
-            Found::Line { word, stem } => {
-                let end = word + 1 + stem;
-                first_wrong = noted(first_wrong, number, &rest[..word], &rest[word + 1..end]);
-                passed = number;
-                at += end + 1;
-            }
-            Found::Wrong => return VocabularyChecked::Line(number),
-        }
+    let mut rest = list;
+    let mut number = 1;
+    let mut first_wrong = None;
+    while !rest.is_empty() {
+        let found = line(rest).ok_or(MisformedLine { line: number })?;
+        let end = found.word + 1 + found.stem;
+        first_wrong = noted(
+            first_wrong,
+            number,
+            &rest[..found.word],
+            &rest[found.word + 1..end],
+        );
+        rest = &rest[end + 1..];
+        number += 1;
     }
-    VocabularyChecked::FirstWrong(first_wrong)
+    Ok(first_wrong.unwrap_or(0))
 }

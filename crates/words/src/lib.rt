@@ -6,21 +6,18 @@ ghost use Rattle.paper.specs.Groups.{done};
 ghost use Rattle.paper.specs.Words.{word_outcome, outcome, Gives};
 ghost use Rattle.answers.specs.Answers.{number_of, value_of};
 
-use answers::{Answer, Judged};
+use answers::WordRefusal;
 
 // A word that is its own stem, whatever the rules: it is judged as every word is.
-fn stay(word: &[u8]) -> Answer
+fn stay(word: &[u8]) -> Result<usize, WordRefusal>
     ensures { Gives (word_outcome done word.now) (number_of result) (value_of result) word.now }
 {
-    let judged = answers::judge(word);
-    match judged {
-        Judged::Refused(answer) => answer,
-        Judged::Taken => Answer::Done(word.len()),
-    }
+    answers::judge(word)?;
+    Ok(word.len())
 }
 
 // The stem of a word, in its own place: afterwards it stands first and spaces fill the rest, or the word is as it came.
-pub fn stem(word: &mut [u8]) -> Answer
+pub fn stem(word: &mut [u8]) -> Result<usize, WordRefusal>
     ensures { Gives (outcome word.old) (number_of result) (value_of result) word.new }
 {
     // W-201: words of one or two letters stay as they are
@@ -28,12 +25,7 @@ pub fn stem(word: &mut [u8]) -> Answer
         return stay(&word[..]);
     }
     let read = readings::read(word);
-    let judged = answers::judge_by(word.len(), read.other);
-    match judged {
-        Judged::Refused(answer) => answer,
-        Judged::Taken => {
-            places::fill(word, read.len);
-            Answer::Done(read.len)
-        }
-    }
+    answers::judge_by(word.len(), read.other)?;
+    places::fill(word, read.len);
+    Ok(read.len)
 }

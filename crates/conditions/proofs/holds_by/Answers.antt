@@ -11,6 +11,3 @@ returns-then-condition-lt4 c = let a = c.args in
     let state = get_or a.states.now n 0 in
     rw c.state_at.ensures (c.least.ensures state (omega (arith, c.shared_slice_known-2-1.given n)))
     ∙ reaches_holds a.condition a.part.now _ _ _ c.if-condition-lt4.true
-
-pub returns : goal.returns
-returns c = cc

@@ -7,6 +7,3 @@ use Rattle.forests.proofs.rising.Given as goal
 
 abbrev pub invariant-loop-k : goal.invariant-loop-k
 invariant-loop-k l = (l.first < l.k) × (l.last ≡ letter l.table (l.k - 1)) × Rises l.table l.first l.k
-
-abbrev pub decreases-loop-k : goal.decreases-loop-k
-decreases-loop-k l = l.end - l.k

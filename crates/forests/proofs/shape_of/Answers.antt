@@ -1,4 +1,3 @@
-use Prim.Native.Nat.{◌+◌, ◌*◌}
 use native.Mathlib.Omega.{arith}
 use Rattle.forests.specs.ShapeSteps.{many_roots, lettered_root, at_first, all_seen, leaf-astray, too_far, astray, falling, leaf, parent}
 use Rattle.forests.proofs.shape_of.Goals as goal
@@ -13,41 +12,37 @@ returns-then-not-roots_bare c = lettered_root _ _ (rw c.if-not-roots_bare.true a
 pub loop-i-init : goal.loop-i-init
 loop-i-init c = at_first _ _ _ c.if-most-roots.false
 
-pub overflow_cast-first : goal.overflow_cast-first
-overflow_cast-first c = omega (arith, c.shared_slice_known-in-loop-i-1.given (4 * c.loop-i.i + 1))
-
-pub overflow_cast-count : goal.overflow_cast-count
-overflow_cast-count c = omega (arith, c.shared_slice_known-in-loop-i-2-1.given (4 * c.loop-i.i + 2))
-
 pub returns-then-first-ne0 : goal.returns-then-first-ne0
-returns-then-first-ne0 c = leaf-astray c.loop-i.invariant c.loop-i-test.true c.if-count-eq0.true c.if-first-ne0.true
-
-pub overflow_add-end : goal.overflow_add-end
-overflow_add-end c = omega (arith, c.shared_slice_known-in-loop-i-2-1.given (4 * c.loop-i.i + 2))
+returns-then-first-ne0 c = leaf-astray c.loop-i.invariant c.loop-i-test.true
+    (rw c.from-count.ensures at c.if-count-eq0.true) (rw c.from-first.ensures at c.if-first-ne0.true)
 
 pub returns-then-most-end : goal.returns-then-most-end
 returns-then-most-end c = too_far c.loop-i.invariant c.loop-i-test.true c.most_nodes-most.ensures
-    c.if-most-end.true
+    (rw c.from-count.ensures at c.if-most-end.true)
 
 pub returns-then-first-next : goal.returns-then-first-next
-returns-then-first-next c = astray c.loop-i.invariant c.loop-i-test.true c.if-count-eq0.false c.if-first-next.true
+returns-then-first-next c = astray c.loop-i.invariant c.loop-i-test.true
+    (rw c.from-count.ensures at c.if-count-eq0.false) (rw c.from-first.ensures at c.if-first-next.true)
 
 pub rising-requires : goal.rising-requires
 rising-requires c = record { first_lt_end = omega (arith, c.if-count-eq0.false); end_in_bounds = omega arith }
 
 pub returns-then-not-rising : goal.returns-then-not-rising
 returns-then-not-rising c = let falls = rw c.if-not-rising.true at c.rising.ensures in
-    falling c.loop-i.invariant c.loop-i-test.true falls
+    falling c.loop-i.invariant c.loop-i-test.true (rw c.from-count.ensures at falls)
 
 pub loop-i-preserved : goal.loop-i-preserved
 loop-i-preserved c = let so_far = c.loop-i.invariant in
     let here = c.loop-i-test.true in
     let bare = rw c.if-not-roots_bare.false at c.roots_bare.ensures in
     elim c.if-count-eq0.branch [
-      | then-count-eq0+else-first-ne0 w ↦ rw w.next-is (leaf so_far here bare w.if-count-eq0.true w.if-first-ne0.false)
+      | then-count-eq0+else-first-ne0 w ↦ rw w.next-is
+          (leaf so_far here bare (rw c.from-count.ensures at w.if-count-eq0.true) (rw c.from-first.ensures at w.if-first-ne0.false))
       | else-count-eq0+else-most-end+else-first-next+else-not-rising w ↦
           let rises = rw w.if-not-rising.false at w.rising.ensures in
-          rw w.next-is (parent so_far here bare w.if-count-eq0.false w.if-most-end.false w.if-first-next.false rises)
+          rw (w.next-is, c.from-count.ensures)
+          (parent so_far here bare (rw c.from-count.ensures at w.if-count-eq0.false) (rw c.from-count.ensures at w.if-most-end.false)
+          (rw c.from-first.ensures at w.if-first-next.false) (rw c.from-count.ensures at rises))
     ]
 
 pub returns : goal.returns

@@ -1,18 +1,25 @@
 -- `imports::make` meets its contract: the first pass leaves the sheet as it was, since no byte of it was lent.
+use Rattle.std.specs.Prelude.{Ok}
+use Rattle.std.proofs.lemmas.Result.{err_from_is_err_and}
+use Rattle.printed.specs.LineNumbers.{not_both}
+use Rattle.lines.specs.PrintedLines.{reads}
+use Rattle.imports.specs.TakenLaws.{of_form}
 use Rattle.imports.specs.Passing.{fault_given, short_given, sheet_given, none_lent}
 use Rattle.imports.proofs.make.Goals as goal
 
+pub returns-in_err-size : goal.returns-in_err-size
+returns-in_err-size c =
+    let p = err_from_is_err_and c.from_residual.result c.from_residual.ensures.1 in
+    rw (p.1, p.2, none_lent _ c.args.sheet.now c.pass.auto.sheet) (fault_given c.args.sheet.now c.in_err-size.ensures)
+
 pub returns-then-sheet-size : goal.returns-then-sheet-size
-returns-then-sheet-size c = let found = rw c.in-Sheet.is at c.pass.ensures in
-    let same = none_lent c.pass.new.sheet c.args.sheet.now c.pass.auto.sheet in
-    rw same (short_given c.args.sheet.now found (rw same at c.if-sheet-size.true))
+returns-then-sheet-size c = let same = none_lent c.pass.new.sheet c.args.sheet.now c.pass.auto.sheet in
+    rw same (short_given c.args.sheet.now c.in_ok-size.ensures (rw same at c.if-sheet-size.true))
 
-pub returns-in-Fault : goal.returns-in-Fault
-returns-in-Fault c = let found = rw c.in-Fault.is at c.pass.ensures in
-    rw (none_lent _ c.args.sheet.now c.pass.auto.sheet) (fault_given c.args.sheet.now found)
+-- the second pass is over the same lines
+pub returns-in_err-pass : goal.returns-in_err-pass
+returns-in_err-pass c = absurd (not_both reads of_form c.in_err-pass.ensures c.in_ok-size.ensures.whole)
 
-pub returns-else-sheet-size : goal.returns-else-sheet-size
-returns-else-sheet-size c = let found = rw c.in-Sheet.is at c.pass.ensures in
-    let same = none_lent c.pass.new.sheet c.args.sheet.now c.pass.auto.sheet in
-    let second = rw same at c.pass-in-Sheet.ensures in
-    sheet_given c.args.sheet.now found (rw same at c.if-sheet-size.false) c.pass-in-Sheet.result second
+pub returns : goal.returns
+returns c = let same = none_lent c.pass.new.sheet c.args.sheet.now c.pass.auto.sheet in
+    sheet_given c.args.sheet.now c.in_ok-size.ensures (rw same at c.if-sheet-size.false) (Ok _) (rw same at c.in_ok-pass.ensures)

@@ -3,6 +3,7 @@ use native.Mathlib.Omega.{arith}
 use mathlib.Core.Path.{◌≡◌, sym, ap, ◌∙◌}
 use mathlib.Core.List.{List}
 use lib.ListN.{length, drop}
+use Rattle.std.specs.Prelude.{Some}
 use Rattle.paper.specs.TestLaws.{or_cases, neither_left, neither_right}
 use Rattle.sheets.specs.Sheets.{misplaced_rule}
 use Rattle.records.specs.Records.{faulty_rule}
@@ -10,7 +11,7 @@ use Rattle.records.specs.RecordBytes.{rule_body}
 use Rattle.lines.specs.Reading.{found_in, rule_of}
 use Rattle.paper.specs.ListLaws.{to_the_end}
 use Rattle.lines.specs.ReadingLaws.{found_here}
-use Rattle.lines.specs.declared.Found.TheVariants.{Group, Rule}
+use Rattle.lines.specs.declared.LineRead.TheVariants.{Group, Rule}
 use Rattle.imports.specs.Passing.{State, starts, wrong_line, group_fault, after_group, group_inside, rule_line, rule_misplaced}
 use Rattle.imports.specs.Passing.{rule_faulty, after_rule, rule_inside, all_passed}
 use Rattle.imports.proofs.pass.Goals as goal
@@ -28,16 +29,16 @@ group : (c : In-Group) (known_found : found_in (drop c.loop-at.at c.args.text.no
     → found_in
     (drop c.loop-at.at
     c.args.text.now)
-    ≡ Group c.in-Group.gate c.in-Group.taken
-group c known_found = known_found ∙ c.in-Group.is
+    ≡ Some (Group c.in-Group.gate c.in-Group.taken)
+group c known_found = known_found ∙ (c.in-Some.is ∙ ap Some c.in-Group.is)
 
 rule : (c : In-Rule) (known_found : found_in (drop c.loop-at.at c.args.text.now)
     ≡ c.line.result)
     → found_in
     (drop c.loop-at.at
     c.args.text.now)
-    ≡ Rule c.in-Rule.rule
-rule c known_found = known_found ∙ c.in-Rule.is
+    ≡ Some (Rule c.in-Rule.rule)
+rule c known_found = known_found ∙ (c.in-Some.is ∙ ap Some c.in-Rule.is)
 
 -- the sheet made is short
 low : {text lent sheet : List ℕ} {at groups rules size : ℕ} → State text lent at groups rules size sheet → size < 2 ^ 32
@@ -47,7 +48,7 @@ low state = omega (arith, state.low_size, state.at_most_16, state.at_most_128)
 beyond-group : (c : In-Group) (known_group : found_in
     (drop c.loop-at.at
     c.args.text.now)
-    ≡ Group c.in-Group.gate c.in-Group.taken)
+    ≡ Some (Group c.in-Group.gate c.in-Group.taken))
     → (c.loop-at.at
     < c.loop-at.at + c.in-Group.taken)
     × (c.loop-at.at + c.in-Group.taken
@@ -69,7 +70,7 @@ faulty-is c = rw to_the_end at c.faulty_body.ensures
 beyond-rule : (c : In-Rule) (known_rule : found_in
     (drop c.loop-at.at
     c.args.text.now)
-    ≡ Rule c.in-Rule.rule)
+    ≡ Some (Rule c.in-Rule.rule))
     → (c.loop-at.at
     < c.loop-at.at + c.in-Rule.rule.taken)
     × (c.loop-at.at + c.in-Rule.rule.taken
@@ -130,8 +131,8 @@ loop-at-preserved c = let state = c.loop-at.invariant.1 in
     let wrote = rw to_the_end at c.put_rule-size.ensures in
     ((beyond-rule (goal.at.loop-at-preserved c).In-Rule (rule (goal.at.loop-at-preserved c).In-Rule (found (goal.at.loop-at-preserved c).After-line))).1, rw wrote.value (after_rule state _ (rule (goal.at.loop-at-preserved c).In-Rule (found (goal.at.loop-at-preserved c).After-line)) placed sound wrote.appends))
 
-pub returns-in-Wrong : goal.returns-in-Wrong
-returns-in-Wrong c = wrong_line c.loop-at.invariant.1 c.loop-at-test.true (found (goal.at.returns-in-Wrong c).After-line ∙ c.in-Wrong.is)
+pub returns-in_default : goal.returns-in_default
+returns-in_default c = wrong_line c.loop-at.invariant.1 c.loop-at-test.true (found (goal.at.returns-in_default c).After-line ∙ c.in_default.is)
 
 pub returns : goal.returns
 returns c = rw c.put_end.ensures.value (all_passed c.loop-at.invariant.1 c.loop-at-test.false c.put_end.ensures.appends)

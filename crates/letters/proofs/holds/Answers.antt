@@ -27,6 +27,6 @@ pub returns-in-3 : goal.returns-in-3
 unfolding holds conditions last_is
 returns-in-3 c = rw c.in-3.is (c.above-in-3.ensures ∙ sym (vowel_from_1 _))
 
-pub returns-after-condition-eq8 : goal.returns-after-condition-eq8
-returns-after-condition-eq8 c = let a = c.args in
+pub returns-else-condition-eq8 : goal.returns-else-condition-eq8
+returns-else-condition-eq8 c = let a = c.args in
     cc (holds_by_states a.condition a.part.now)

@@ -1,70 +1,50 @@
 -- `lines::replaced` meets its contract.
 use native.Mathlib.Omega.{arith}
-use mathlib.Core.Path.{◌≡◌, refl, sym, ap, ◌∙◌}
-use lib.ListN.{drop, length-drop}
+use mathlib.Core.Path.{◌≡◌, sym, ap, ◌∙◌}
+use lib.ListN.{drop}
 use Rattle.paper.specs.Letters.{letters}
 use Rattle.lines.specs.Reading.{starts_with, part_in, after_arrow}
-use Rattle.lines.specs.PartLaws.{starts_front, inside, LettersHere, part-found}
+use Rattle.lines.specs.PartLaws.{asked, part_inside}
 use Rattle.paper.specs.ListLaws.{to_the_end}
 use Rattle.lines.proofs.replaced.Goals as goal
-use Rattle.lines.proofs.replaced.Goals.{After-read_part, After-starts, In-Letters}
+use Rattle.lines.proofs.replaced.Goals.{After-read_part, After-starts_with}
 
 -- what was asked of the part that was lent, said of the rest of the bytes
-single : (c : After-starts)
-    → starts_with (letters "single letter")
-    (drop c.args.from c.args.rest.now)
-    ≡ c.starts.result
+single : (c : After-starts_with) → starts_with (letters "single letter") (drop c.args.from c.args.rest.now) ≡ c.starts_with.result
 unfolding letters
 single c =
     let s = c.args in
-    ap (starts_with (letters "single letter")) (sym (to_the_end s.rest.now s.from)) ∙ sym c.starts.ensures
+    ap (starts_with (letters "single letter")) (sym (to_the_end s.rest.now s.from))
+    ∙ asked (letters "single letter") _ _ c.starts_with.ensures.value
 
-part : (c : After-read_part)
-    → part_in
-    (drop c.args.from
-    c.args.rest.now)
-    ≡ c.read_part.result
+part : (c : After-read_part) → part_in (drop c.args.from c.args.rest.now) ≡ c.read_part.result
 part c =
     let s = c.args in
     ap part_in (sym (to_the_end s.rest.now s.from)) ∙ sym c.read_part.ensures
 
-here : (c : In-Letters) (known_part : part_in
-    (drop c.args.from
-    c.args.rest.now)
-    ≡ c.read_part.result)
-    → LettersHere
-    (drop c.args.from
-    c.args.rest.now)
-    c.in-Letters.count c.in-Letters.taken
-here c known_part = part-found _ _ (known_part ∙ c.in-Letters.is)
-
-pub closed-requires : goal.closed-requires
-unfolding letters
-closed-requires c = let s = c.args in
-    let there = starts_front (letters "single letter") (drop s.from s.rest.now) (single (goal.at.closed-requires c).After-starts ∙ c.if-starts.true) in
-    omega (arith, inside there, length-drop s.from s.rest.now)
-
-pub returns-then-starts : goal.returns-then-starts
+pub returns-then-starts_with : goal.returns-then-starts_with
 unfolding after_arrow
-returns-then-starts c = c.closed.ensures ∙ sym (rw (single (goal.at.returns-then-starts c).After-starts ∙ c.if-starts.true) refl)
+returns-then-starts_with c =
+    rw (single (goal.at.returns-then-starts_with c).After-starts_with ∙ c.if-starts_with.true) c.closed.ensures
 
-pub overflow_add-line-in-Letters : goal.overflow_add-line-in-Letters
-overflow_add-line-in-Letters c = let s = c.args in
-    let there = here (goal.at.overflow_add-line-in-Letters c).In-Letters (part (goal.at.overflow_add-line-in-Letters c).After-read_part) in
-    omega (arith, there.at_most, inside there.letters_there, length-drop s.from s.rest.now)
-
-pub overflow_add-line-in-Letters-2 : goal.overflow_add-line-in-Letters-2
-overflow_add-line-in-Letters-2 c = let s = c.args in
-    omega (arith, inside (here (goal.at.overflow_add-line-in-Letters-2 c).In-Letters (part (goal.at.overflow_add-line-in-Letters-2 c).After-read_part)).letters_there, length-drop s.from s.rest.now)
-
-pub closed-requires-in-Letters : goal.closed-requires-in-Letters
-closed-requires-in-Letters c = omega (arith, inside (here (goal.at.closed-requires-in-Letters c).In-Letters (part (goal.at.closed-requires-in-Letters c).After-read_part)).letters_there, length-drop c.args.from c.args.rest.now, c.requires)
-
-pub returns-in-Letters : goal.returns-in-Letters
+pub returns-in_err-letters : goal.returns-in_err-letters
 unfolding after_arrow
-returns-in-Letters c = c.closed-in-Letters.ensures
-    ∙ sym (rw (single (goal.at.returns-in-Letters c).After-starts ∙ c.if-starts.false, part (goal.at.returns-in-Letters c).After-read_part ∙ c.in-Letters.is) refl)
+returns-in_err-letters c = let at = goal.at.returns-in_err-letters c in
+    rw (single at.After-starts_with ∙ c.if-starts_with.false, part at.After-read_part ∙ c.in_err-letters.was, c.from_residual.ensures)
 
-pub returns-in-Nothing : goal.returns-in-Nothing
+pub overflow_add-line-2 : goal.overflow_add-line-2
+overflow_add-line-2 c = let at = goal.at.overflow_add-line-2 c in
+    omega (arith, part_inside c.args.rest.now c.args.from c.requires (part at.After-read_part ∙ c.in_ok-letters.was))
+
+pub overflow_add-line-3 : goal.overflow_add-line-3
+overflow_add-line-3 c = let at = goal.at.overflow_add-line-3 c in
+    omega (arith, part_inside c.args.rest.now c.args.from c.requires (part at.After-read_part ∙ c.in_ok-letters.was))
+
+pub closed-requires-2 : goal.closed-requires-2
+closed-requires-2 c = let at = goal.at.closed-requires-2 c in
+    (part_inside c.args.rest.now c.args.from c.requires (part at.After-read_part ∙ c.in_ok-letters.was)).1
+
+pub returns : goal.returns
 unfolding after_arrow
-returns-in-Nothing c = rw (single (goal.at.returns-in-Nothing c).After-starts ∙ c.if-starts.false, part (goal.at.returns-in-Nothing c).After-read_part ∙ c.in-Nothing.is) refl
+returns c = let at = goal.at.returns c in
+    rw (single at.After-starts_with ∙ c.if-starts_with.false, part at.After-read_part ∙ c.in_ok-letters.was) c.closed-2.ensures

@@ -1,45 +1,55 @@
-use Prim.Native.Nat.{ℕ}
-use mathlib.Core.Path.{◌≡◌, sym, subst, ◌∙◌}
-use mathlib.Core.List.{List}
-use native.Mathlib.Omega.{arith}
-use lib.ListN.{drop, length-drop}
+use Rattle.std.proofs.Common.{ℕ, ◌≡◌, sym, ap, subst, refl, ◌∙◌, List, ok_or, Option, Some, None, Ok, Err, arith}
+use Rattle.std.proofs.lemmas.Result.{err_from_is_err_and}
+use Rattle.paper.specs.TestLaws.{apart}
 use Rattle.lists.specs.Searches.{item_at}
-use Rattle.lists.specs.ListSteps.{EntryAt, Says, item_says, faulty-empty}
+use Rattle.lists.specs.ListSteps.{EntryAt, Says, item_says}
 use Rattle.lists.specs.CheckLaws.{starts, past_word, at_close, at_fault}
 use Rattle.lists.specs.declared.Item.{Item}
+use Rattle.lists.specs.declared.Item.TheVariants.{Word, Close}
 use Rattle.lists.proofs.check.Goals as goal
 use Rattle.lists.proofs.check.Goals.{In-Word}
 
+some_found : {A E : Type 0} (found : Option A) (refusal : E) {one : A} → ok_or found refusal ≡ Ok one → found ≡ Some one
+some_found (Some other) refusal is = cc
+some_found None refusal is = apart (cc)
+
+none_found : {A E : Type 0} (found : Option A) (refusal : E) {given : E} → ok_or found refusal ≡ Err given → (found ≡ None) × (given ≡ refusal)
+none_found (Some other) refusal is = apart (cc)
+none_found None refusal is = (refl, cc)
+
+-- the only other item is the close
+the_close : (item : Item) → ((next : ℕ) → item ≡ Word next → ⊥) → item ≡ Close
+the_close (Word next) other = absurd (other next refl)
+the_close Close other = refl
+
 -- what the item that was told says of the record
-told : (list : List ℕ) (at : ℕ) {result item : Item} → result ≡ item_at list at → result ≡ item → Says list at item
-told list at ensures is = subst (Says list at) (sym ensures ∙ is) (item_says list at)
+told : (list : List ℕ) (at : ℕ) {result : Option Item} (item : Option Item) → result ≡ item_at list at → result ≡ item → Says list at item
+told list at item ensures is = subst (Says list at) (sym ensures ∙ is) (item_says list at)
 
-word_of : (c : In-Word)
-    → (EntryAt c.args.list.now c.loop-at.at c.in-Word.next)
-word_of c = told _ _ c.item_at-item.ensures c.in-Word.is
+word_of : (c : In-Word) → EntryAt c.args.list.now c.loop-next.at c.in-Word.next
+word_of c =
+    told _ _ (Some (Word c.in-Word.next)) c.item_at.ensures
+    (some_found c.item_at.result _ (sym c.in_ok-next.ensures.value) ∙ ap Some c.in-Word.is)
 
-pub loop-at-init : goal.loop-at-init
-loop-at-init c = (omega arith, omega arith, starts c.args.list.now)
+pub loop-next-init : goal.loop-next-init
+loop-next-init c = (omega arith, omega arith, starts c.args.list.now)
 
-pub overflow_add-count : goal.overflow_add-count
-overflow_add-count c = let found = word_of (goal.at.overflow_add-count c).In-Word in omega (arith, found.forward, found.inside)
+pub returns-in_err-next : goal.returns-in_err-next
+returns-in_err-next c =
+    let p = err_from_is_err_and c.from_residual.result c.from_residual.ensures.1 in
+    let none = none_found c.item_at.result _ (sym c.in_err-next.ensures.value) in
+    rw (p.1, p.2, none.1) (at_fault c.loop-next.invariant.2 (told _ _ None c.item_at.ensures none.0))
 
-pub loop-at-smaller : goal.loop-at-smaller
-loop-at-smaller c = let found = word_of (goal.at.loop-at-smaller c).In-Word in omega (arith, found.forward, found.inside)
+pub loop-next-smaller : goal.loop-next-smaller
+loop-next-smaller c = let found = word_of (goal.at.loop-next-smaller c).In-Word in omega (arith, found.forward, found.inside)
 
-pub loop-at-preserved : goal.loop-at-preserved
-loop-at-preserved c = let found = word_of (goal.at.loop-at-preserved c).In-Word in
-    let turn = c.loop-at in
+pub loop-next-preserved : goal.loop-next-preserved
+loop-next-preserved c =
+    let found = word_of (goal.at.loop-next-preserved c).In-Word in
+    let turn = c.loop-next in
     (found.inside, omega (arith, found.forward, turn.invariant.1), past_word turn.invariant.2 found)
 
-pub returns-in-Close : goal.returns-in-Close
-returns-in-Close c = at_close c.loop-at.invariant.2 c.loop-at-test.true
-    (told _ _ c.item_at-item.ensures c.in-Close.is)
-
-pub returns-in-Faulty : goal.returns-in-Faulty
-returns-in-Faulty c = at_fault c.loop-at.invariant.2 (told _ _ c.item_at-item.ensures c.in-Faulty.is)
-
 pub returns : goal.returns
-returns c = let turn = c.loop-at in
-    let list = c.args.list.now in
-    at_fault turn.invariant.2 (faulty-empty (drop turn.at list) (omega (arith, length-drop turn.at list)))
+returns c =
+    let item = some_found c.item_at.result _ (sym c.in_ok-next.ensures.value) in
+    at_close c.loop-next.invariant.2 (told _ _ (Some Close) c.item_at.ensures (item ∙ ap Some (the_close _ c.in_default.not-Word)))

@@ -5,8 +5,8 @@ use lib.ListN.{length}
 use Rattle.lists.specs.CheckLaws.{State}
 use Rattle.lists.proofs.check.Given as goal
 
-abbrev pub invariant-loop-at : goal.invariant-loop-at
-invariant-loop-at l = (l.at ≤ length l.list) × (l.count ≤ l.at) × State l.list l.at l.count
+abbrev pub invariant-loop-next : goal.invariant-loop-next
+invariant-loop-next l = (l.at ≤ length l.list) × (l.count ≤ l.at) × State l.list l.at l.count
 
-abbrev pub decreases-loop-at : goal.decreases-loop-at
-decreases-loop-at l = length l.list - l.at
+abbrev pub decreases-loop-next : goal.decreases-loop-next
+decreases-loop-next l = length l.list - l.at

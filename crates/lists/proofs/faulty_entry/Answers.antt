@@ -7,14 +7,19 @@ use mathlib.Core.List.{List}
 use native.Mathlib.Omega.{arith}
 use borrow.Author.Tests.{le-ltb}
 use lib.Dec.{ltb}
-use lib.ListN.{length, take, drop, length-drop}
-use lib.Seq.{take_all}
+use lib.ListN.{length, drop, length-drop}
 use Rattle.paper.specs.TestLaws.{by_test, and_parts, and_both}
 use Rattle.paper.specs.Words.{all_small, first_other}
 use Rattle.paper.specs.WordsLaws.{all_small_append, other_inside}
 use Rattle.lists.specs.Lists.{word_length, word_in, stem_in, entry_in, faulty_entry}
 use Rattle.lists.specs.EntryLaws.{allowed_is, behind, stem_length, word_length_lem, Sound, sound}
+use Rattle.paper.specs.ListLaws.{to_the_end}
 use Rattle.lists.proofs.faulty_entry.Goals as goal
+use Rattle.lists.proofs.faulty_entry.Goals.{
+  then-n-gt-MOST-via-then-n-gt-MOST as long,
+  then-n-gt-MOST-via-else-n-gt-MOST+then-size-n as no_stem,
+  then-n-gt-MOST-via-else-n-gt-MOST+else-size-n+then-n-size as long_stem,
+}
 
 module _ (body : List ℕ) where
   refuse : (Sound body → ⊥) → true ≡ faulty_entry body
@@ -24,13 +29,14 @@ module _ (body : List ℕ) where
   letters = ap all_small (behind body) ∙ all_small_append (word_in body) (stem_in body)
 
   -- the lengths are right
-  module _ {n : ℕ} (is : n ≡ word_length body) (most : n ≤ 64) (stem : n < length body - 1) (no_more : length body - 1 - n ≤ n) where
+  module _ {n : ℕ} (is : n ≡ word_length body) (most : n ≤ 64) (stem : n < length (drop 1 body)) (no_more : length (drop 1 body) - n ≤ n) where
     well : all_small (drop 1 body) ≡ true → faulty_entry body ≡ false
     unfolding faulty_entry
     well all =
         let both = and_parts (all_small (word_in body)) (all_small (stem_in body)) (sym letters ∙ all) in
-        let word_size = word_length_lem body (omega arith) in
+        let word_size = word_length_lem body (omega (arith, length-drop 1 body)) in
         let stem_size = stem_length body in
+        let behind_n = length-drop 1 body in
         let allowed = allowed_is (entry_in body) (record {
           some_word = omega arith;
           most = omega arith;
@@ -39,31 +45,31 @@ module _ (body : List ℕ) where
           no_more = omega arith;
           small_stem = both.1;
         }) in
-        rw (le-ltb (length body) (1 + word_length body) (omega arith), allowed)
+        rw (le-ltb (length body) (1 + word_length body) (omega (arith, behind_n)), allowed)
 
     by_letters : not (all_small (drop 1 body)) ≡ faulty_entry body
     by_letters =
         by_test (all_small (drop 1 body)) (λ all. rw all (sym (well all)))
         (λ other. rw other (refuse (λ s. false≢true (sym other ∙ letters ∙ and_both s.is.small_word s.is.small_stem))))
 
-    judged : {first : ℕ} → first ≡ first_other (take (length body - 1) (drop 1 body)) → ltb first (length body - 1) ≡ faulty_entry body
-    judged first_is =
-        let size = length-drop 1 body in
-        let whole = take_all (length body - 1) (drop 1 body) (omega arith) in
-        rw (first_is, whole, ← size) (other_inside (drop 1 body) ∙ by_letters)
+    judged : {letters : List ℕ} {first : ℕ} → letters ≡ drop 1 body → first ≡ first_other letters → ltb first (length letters) ≡ faulty_entry body
+    judged letters_are first_is = rw (first_is, letters_are) (other_inside (drop 1 body) ∙ by_letters)
 
-pub returns-then-size-eq0 : goal.returns-then-size-eq0
-returns-then-size-eq0 c = refuse _ (λ s. omega (arith, s.long, c.if-size-eq0.true))
+pub returns-in_default : goal.returns-in_default
+returns-in_default c = refuse _ (λ s. omega (arith, s.long, c.in_default.len_below))
 
-pub returns-then-n-gt64 : goal.returns-then-n-gt64
-returns-then-n-gt64 c = refuse _ (λ s. omega (arith, s.is.most, s.word_size, c.wide-n.ensures.value, c.if-n-gt64.true))
-
-pub returns-then-size-n : goal.returns-then-size-n
-returns-then-size-n c = refuse _ (λ s. omega (arith, s.is.some_stem, s.stem_size, c.wide-n.ensures.value, c.if-size-n.true))
-
-pub returns-then-n-size : goal.returns-then-n-size
-returns-then-n-size c = refuse _ (λ s. omega (arith, s.is.no_more, s.word_size, s.stem_size, c.wide-n.ensures.value, c.if-n-size.true))
+pub returns-then-n-gt-MOST : goal.returns-then-n-gt-MOST
+returns-then-n-gt-MOST c =
+    let body = c.args.body.now in
+    let letters = ap length (to_the_end body 1) in
+    let n = c.from-n.ensures in
+    elim c.then-n-gt-MOST.branch [
+      | long w ↦ refuse body (λ s. omega (arith, s.is.most, s.word_size, n, w.if-n-gt-MOST.true))
+      | no_stem w ↦ refuse body (λ s. omega (arith, s.is.some_stem, s.stem_size, n, letters, length-drop 1 body, w.if-size-n.true))
+      | long_stem w ↦ refuse body (λ s. omega (arith, s.is.no_more, s.word_size, s.stem_size, n, letters, length-drop 1 body, w.if-n-size.true))
+    ]
 
 pub returns : goal.returns
-returns c = judged _ c.wide-n.ensures.value c.if-n-gt64.false c.if-size-n.false c.if-n-size.false
-    c.first_other.ensures
+returns c =
+    let letters = to_the_end c.args.body.now 1 in
+    judged _ c.from-n.ensures c.if-n-gt-MOST.false (rw letters at c.if-size-n.false) (rw letters at c.if-n-size.false) letters c.first_other.ensures

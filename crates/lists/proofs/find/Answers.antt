@@ -1,16 +1,12 @@
 -- `lists::find` meets its contract: a list that is refused holds no word, and in one that is accepted the search finds it.
-use mathlib.Core.Path.{refl, sym, ap, ◌∙◌}
-use Rattle.answers.specs.Answers.{says_list}
 use Rattle.lists.specs.Searches.{found}
 use Rattle.lists.specs.CheckLaws.{by_refused, by_accepted}
 use Rattle.lists.proofs.find.Goals as goal
 
-pub returns-in-Refused : goal.returns-in-Refused
+pub returns-in-Ok : goal.returns-in-Ok
 unfolding found
-returns-in-Refused c = let refused = by_refused _ (ap says_list (sym c.in-Refused.is) ∙ c.check-judged.ensures) in
-    rw refused refl
+returns-in-Ok c = rw (by_accepted _ c.in-Ok.ensures).1 c.search.ensures
 
-pub returns-in-Accepted : goal.returns-in-Accepted
+pub returns-in-Err : goal.returns-in-Err
 unfolding found
-returns-in-Accepted c = let accepted = by_accepted _ (ap says_list (sym c.in-Accepted.is) ∙ c.check-judged.ensures) in
-    rw accepted.1 c.search.ensures
+returns-in-Err c = rw (by_refused _ c.in-Err.ensures) tt

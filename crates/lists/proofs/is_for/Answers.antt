@@ -1,32 +1,36 @@
 -- `lists::is_for` meets its contract: a body that does not fit the word is for another one, and of one that fits the letters decide.
-use mathlib.Core.Path.{sym, ◌∙◌}
-use native.Mathlib.Omega.{arith}
-use lib.Seq.{length-take-le}
-use Rattle.lists.specs.EntryLaws.{Fitting, not_fitting, by_letters}
+use Rattle.std.proofs.Common.{sym, ◌∙◌, arith}
+use borrow.Author.Tests.{eqb-true}
+use Rattle.paper.specs.ListLaws.{to_the_end}
+use Rattle.lists.specs.EntryLaws.{not_fitting, other_letters, by_room}
 use Rattle.lists.proofs.is_for.Goals as goal
-use Rattle.lists.proofs.is_for.Goals.{Else-n-size}
+use Rattle.lists.proofs.is_for.Goals.{then-from-word, else-from-word}
 
--- the byte n, the length and the room, where the letters are compared
-fitting : (c : Else-n-size)
-    → Fitting c.args.body.now c.args.word.now
-fitting c =
-    record {
-      size = sym c.wide.ensures.value ∙ c.if-wide-n.false;
-      long = omega arith;
-      room = omega arith;
-    }
+pub returns-in_default : goal.returns-in_default
+returns-in_default c = not_fitting _ _ (λ is. omega (arith, is.long, c.in_default.len_below))
 
-pub returns-then-size-n : goal.returns-then-size-n
-returns-then-size-n c = not_fitting _ _ (λ is. omega (arith, is.long, c.if-size-n.true))
+pub returns-then-starts_with : goal.returns-then-starts_with
+returns-then-starts_with c =
+    let body = c.args.body.now in
+    let letters = to_the_end body 1 in
+    let size = sym c.from.ensures in
+    elim c.if-from-word.branch [
+      | then-from-word w ↦
+          rw letters
+          (by_room body _ (size ∙ w.if-from-word.true) c.in-len1-up.len_at_least
+          (rw letters at (sym w.starts_with.ensures.value ∙ sym w.value-is ∙ c.if-starts_with.true)))
+      | else-from-word w ↦ absurd (w.if-from-word.false (eqb-true _ _ (sym w.value-is ∙ c.if-starts_with.true)))
+    ]
 
-pub returns-then-wide-n : goal.returns-then-wide-n
-returns-then-wide-n c = not_fitting _ _ (λ is. c.if-wide-n.true (c.wide.ensures.value ∙ is.size))
-
-pub returns-then-n-size : goal.returns-then-n-size
-returns-then-n-size c = not_fitting _ _ (λ is. omega (arith, is.room, c.if-n-size.true))
-
-pub slice_bounds-ends_with-end : goal.slice_bounds-ends_with-end
-slice_bounds-ends_with-end c = sym (length-take-le _ _ (omega (arith, (fitting (goal.at.slice_bounds-ends_with-end c).Else-n-size).long)))
-
-pub returns : goal.returns
-returns c = c.ends_with.ensures ∙ by_letters _ _ (fitting (goal.at.returns c).Else-n-size)
+pub returns-else-starts_with : goal.returns-else-starts_with
+returns-else-starts_with c =
+    let body = c.args.body.now in
+    let letters = to_the_end body 1 in
+    let size = sym c.from.ensures in
+    c.if-starts_with.false
+    ∙ elim c.if-from-word.branch [
+      | then-from-word w ↦
+          other_letters body _ (size ∙ w.if-from-word.true)
+          (rw letters at (sym w.starts_with.ensures.value ∙ sym w.value-is ∙ c.if-starts_with.false))
+      | else-from-word w ↦ not_fitting _ _ (λ is. w.if-from-word.false (c.from.ensures ∙ is.size))
+    ]

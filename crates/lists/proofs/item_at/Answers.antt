@@ -1,23 +1,17 @@
 -- `lists::item_at` meets its contract: the frame says whether the record is cut, and the test of its kind the rest.
-use Prim.Native.Nat.{ℕ, ◌-◌}
-use mathlib.Core.Path.{◌≡◌, sym, ◌∙◌}
-use mathlib.Core.Bool.{Bool, true, not, cond, ◌||◌}
-use mathlib.Core.List.{List}
+use Rattle.std.proofs.Common.{ℕ, ◌-◌, ◌≡◌, sym, ◌∙◌, Bool, true, not, cond, ◌||◌, Some, None, List, length, take, drop, eqb, arith}
 use borrow.Author.Tests.{ne_eqb}
-use lib.Dec.{eqb}
-use lib.ListN.{length, take, drop}
-use Rattle.records.specs.declared.framing.Frame.TheVariants.{Whole, Cut}
 use Rattle.records.specs.Framing.{kind, cut}
 use Rattle.records.specs.FramingLaws.{FramedAt, framed}
 use Rattle.records.specs.FrameCases.{end_judged}
 use Rattle.lists.specs.Lists.{faulty_entry, faulty}
 use Rattle.lists.specs.Searches.{item_at}
-use Rattle.lists.specs.declared.Item.TheVariants.{Word, Close, Faulty}
+use Rattle.lists.specs.declared.Item.TheVariants.{Word, Close}
 use Rattle.lists.proofs.item_at.Goals as goal
-use Rattle.lists.proofs.item_at.Goals.{In-Whole}
+use Rattle.lists.proofs.item_at.Goals.{In_ok-frame}
 
 module _ (list : List ℕ) (at : ℕ) where
-  cut_here : cut (drop at list) ≡ true → Faulty ≡ item_at list at
+  cut_here : cut (drop at list) ≡ true → None ≡ item_at list at
   unfolding item_at faulty
   cut_here short = rw short
 
@@ -25,53 +19,41 @@ module _ (list : List ℕ) (at : ℕ) where
     kind_of : {n : ℕ} → k ≡ n → kind (drop at list) ≡ n
     kind_of known = sym is.kind_is ∙ known
 
-    word_here : {test : Bool} → k ≡ 4 → test ≡ faulty_entry (take (next - b) (drop b list)) → cond test Faulty (Word next) ≡ item_at list at
+    word_here : {test : Bool} → k ≡ 4 → test ≡ faulty_entry (take (next - b) (drop b list)) → cond test None (Some (Word next)) ≡ item_at list at
     unfolding item_at faulty
     word_here four judged = rw (is.whole, kind_of four, ← is.body_is, ← judged, ← is.next_is)
 
     close_here : {test : Bool} → k ≡ 3 → test ≡ (not (eqb next b) || not (eqb next (length list)))
-        → cond test Faulty Close ≡ item_at list at
+        → cond test None (Some Close) ≡ item_at list at
     unfolding item_at faulty
     close_here three judged = rw (is.whole, kind_of three, ← end_judged list at is, ← judged)
 
-    other_here : (k ≡ 4 → ⊥) → (k ≡ 3 → ⊥) → Faulty ≡ item_at list at
+    other_here : (k ≡ 4 → ⊥) → (k ≡ 3 → ⊥) → None ≡ item_at list at
     unfolding item_at faulty
     other_here not-four not_three = simp (is.whole, ← is.kind_is, ne_eqb k 4 not-four, ne_eqb k 3 not_three)
 
 -- what the frame says
-frame-of : (c : In-Whole)
-    → (let args = c.args in
-    FramedAt args.list.now args.at c.in-Whole.kind c.in-Whole.body c.in-Whole.next)
-frame-of c =
+frame-of : (c : In_ok-frame)
+    → (let frame = c.in_ok-frame.frame in
+    FramedAt c.args.list.now c.args.at frame.kind frame.body frame.next)
+frame-of c = framed c.args.list.now c.args.at (Some c.in_ok-frame.frame) (sym c.in_ok-frame.ensures.frame)
+
+pub returns-in_err-frame : goal.returns-in_err-frame
+returns-in_err-frame c =
     let args = c.args in
-    framed args.list.now args.at (Whole c.in-Whole.kind c.in-Whole.body c.in-Whole.next)
-    (sym c.frame_at-frame.ensures ∙ c.in-Whole.is)
+    rw c.from_residual.ensures (cut_here args.list.now args.at (framed args.list.now args.at None (sym c.in_err-frame.ensures.frame)))
 
-pub slice_bounds-faulty_entry-count : goal.slice_bounds-faulty_entry-count
-slice_bounds-faulty_entry-count c = (frame-of (goal.at.slice_bounds-faulty_entry-count c).In-Whole).ahead
+pub returns-in-3 : goal.returns-in-3
+returns-in-3 c = close_here _ _ (frame-of (goal.at.returns-in-3 c).In_ok-frame) c.in-3.is (sym c.if-not-faulty_end.true ∙ c.faulty_end.ensures)
 
-pub slice_bounds-faulty_entry-start : goal.slice_bounds-faulty_entry-start
-slice_bounds-faulty_entry-start c = (frame-of (goal.at.slice_bounds-faulty_entry-start c).In-Whole).ahead
+pub returns-in-4 : goal.returns-in-4
+returns-in-4 c = word_here _ _ (frame-of (goal.at.returns-in-4 c).In_ok-frame) c.in-4.is (sym c.if-not-faulty_entry.true ∙ c.faulty_entry.ensures)
 
-pub slice_bounds-faulty_entry-end : goal.slice_bounds-faulty_entry-end
-slice_bounds-faulty_entry-end c = (frame-of (goal.at.slice_bounds-faulty_entry-end c).In-Whole).inside
+pub returns-in_default : goal.returns-in_default
+returns-in_default c = close_here _ _ (frame-of (goal.at.returns-in_default c).In_ok-frame) c.in-3.is (sym c.if-not-faulty_end.false ∙ c.faulty_end.ensures)
 
-pub returns-then-faulty_entry : goal.returns-then-faulty_entry
-returns-then-faulty_entry c = word_here _ _ (frame-of (goal.at.returns-then-faulty_entry c).In-Whole) c.if-kind-eq4.true (sym c.if-faulty_entry.true ∙ c.faulty_entry.ensures)
+pub returns-in_default-2 : goal.returns-in_default-2
+returns-in_default-2 c = word_here _ _ (frame-of (goal.at.returns-in_default-2 c).In_ok-frame) c.in-4.is (sym c.if-not-faulty_entry.false ∙ c.faulty_entry.ensures)
 
-pub returns-then-kind-eq4 : goal.returns-then-kind-eq4
-returns-then-kind-eq4 c = word_here _ _ (frame-of (goal.at.returns-then-kind-eq4 c).In-Whole) c.if-kind-eq4.true (sym c.if-faulty_entry.false ∙ c.faulty_entry.ensures)
-
-pub returns-then-kind-ne3 : goal.returns-then-kind-ne3
-returns-then-kind-ne3 c = other_here _ _ (frame-of (goal.at.returns-then-kind-ne3 c).In-Whole) c.if-kind-eq4.false c.if-kind-ne3.true
-
-pub returns-then-faulty_end : goal.returns-then-faulty_end
-returns-then-faulty_end c = close_here _ _ (frame-of (goal.at.returns-then-faulty_end c).In-Whole) c.if-kind-ne3.false (sym c.if-faulty_end.true ∙ c.faulty_end.ensures)
-
-pub returns-in-Cut : goal.returns-in-Cut
-returns-in-Cut c = let args = c.args in
-    cut_here args.list.now args.at
-    (framed args.list.now args.at Cut (sym c.frame_at-frame.ensures ∙ c.in-Cut.is))
-
-pub returns-else-faulty_end : goal.returns-else-faulty_end
-returns-else-faulty_end c = close_here _ _ (frame-of (goal.at.returns-else-faulty_end c).In-Whole) c.if-kind-ne3.false (sym c.if-faulty_end.false ∙ c.faulty_end.ensures)
+pub returns-in_default-3 : goal.returns-in_default-3
+returns-in_default-3 c = other_here _ _ (frame-of (goal.at.returns-in_default-3 c).In_ok-frame) (λ is. omega (arith, is)) (λ is. omega (arith, is))

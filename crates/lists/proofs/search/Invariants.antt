@@ -4,8 +4,8 @@ use lib.ListN.{length}
 use Rattle.lists.specs.Searching.{State}
 use Rattle.lists.proofs.search.Given as goal
 
-abbrev pub invariant-loop-at : goal.invariant-loop-at
-invariant-loop-at l = (l.at ≤ length l.list) × State l.list l.word l.at
+abbrev pub invariant-loop-frame : goal.invariant-loop-frame
+invariant-loop-frame l = (l.at ≤ length l.list) × State l.list l.word l.at
 
-abbrev pub decreases-loop-at : goal.decreases-loop-at
-decreases-loop-at l = length l.list - l.at
+abbrev pub decreases-loop-frame : goal.decreases-loop-frame
+decreases-loop-frame l = length l.list - l.at

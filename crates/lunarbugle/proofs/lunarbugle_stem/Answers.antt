@@ -13,23 +13,13 @@ use Rattle.lunarbugle.proofs.lunarbugle_stem.Goals as goal
 small_numbers : (word : List ℕ) → Bounds word (outcome word)
 small_numbers word = outcome_bounds (stem shipped) stem_never_lengthens word
 
-pub overflow_mul-result : goal.overflow_mul-result
-overflow_mul-result c = let gives = c.stem.ensures in
-    let bounds = small_numbers c.args.word.now in
-    omega (arith, c.of_word-reply.ensures.value_value, gives.value_is, bounds.value)
-
-pub overflow_add-result : goal.overflow_add-result
-overflow_add-result c = let gives = c.stem.ensures in
-    let bounds = small_numbers c.args.word.now in
-    let told = c.of_word-reply.ensures in
-    omega (arith, told.value_value, gives.value_is, bounds.value, told.number_value, gives.number_is, bounds.number)
-
 pub returns : goal.returns
 unfolding packed
 returns c =
     let gives = c.stem.ensures in
-    let told = c.of_word-reply.ensures in
+    let told = c.in_numbers-reply.ensures in
+    let bounds = small_numbers c.args.word.now in
     record {
-      value = omega (arith, told.value_value, gives.value_is, told.number_value, gives.number_is);
+      value = omega (arith, c.pack.ensures, told.value, gives.value_is, told.number, gives.number_is, bounds.value);
       word_after = gives.place_is;
     }

@@ -5,7 +5,10 @@ use Rattle.lunarbugle.proofs.lunarbugle_stem_listed.Goals as goal
 
 pub returns : goal.returns
 unfolding packed_listed
-returns c = let gives = c.stem.ensures in
-    let told = c.of_listed_word-reply.ensures in
-    let number = told.number_value ∙ gives.number_is in
-    let value = told.value_value ∙ gives.value_is in record { value = rw (number, value) refl; word_after = gives.place_is }
+returns c =
+    let gives = c.stem.ensures in
+    let told = c.in_numbers-reply.ensures in
+    record {
+      value = c.pack.ensures ∙ rw (told.number ∙ gives.number_is, told.value ∙ gives.value_is) refl;
+      word_after = gives.place_is;
+    }

@@ -1,5 +1,5 @@
 -- `lunarbugle_vocabulary` meets its contract: the line's number is cut to what can be packed.
-use mathlib.Core.Path.{refl}
+use mathlib.Core.Path.{refl, ◌∙◌}
 use Rattle.answers.specs.Answers.{says_vocabulary}
 use Rattle.lunarbugle.specs.Packed.{packed_said}
 use Rattle.lunarbugle.proofs.lunarbugle_vocabulary.Goals as goal
@@ -7,5 +7,5 @@ use Rattle.lunarbugle.proofs.lunarbugle_vocabulary.Goals as goal
 pub returns : goal.returns
 unfolding packed_said
 returns c = let check = c.check in
-    let told = c.of_vocabulary-reply.ensures in
-    record { answer = says_vocabulary check.result; checks = check.ensures; packs = rw (told.number_value, told.value_value) refl }
+    let told = c.in_numbers-reply.ensures in
+    record { answer = says_vocabulary check.result; checks = check.ensures; packs = c.pack.ensures ∙ rw (told.number, told.value) refl }

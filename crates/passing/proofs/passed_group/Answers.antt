@@ -5,10 +5,10 @@ use Rattle.records.specs.Records.{gate_number}
 use Rattle.passing.specs.Passed.{passed_group}
 use Rattle.passing.proofs.passed_group.Goals as goal
 
-pub returns-then-body-lt2 : goal.returns-then-body-lt2
+pub returns-in_default : goal.returns-in_default
 unfolding passed_group
-returns-then-body-lt2 c = simp (lt-ltb _ _ c.if-body-lt2.true)
+returns-in_default c = simp (lt-ltb _ _ c.in_default.len_below)
 
 pub returns : goal.returns
 unfolding passed_group gate_number number
-returns c = simp (le-ltb _ _ c.if-body-lt2.false, ← c.pair-gate.ensures.value)
+returns c = simp (le-ltb _ _ c.in-len2-up.len_at_least, ← c.pair-gate.ensures.value)

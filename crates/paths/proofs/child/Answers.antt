@@ -1,60 +1,41 @@
-use mathlib.Core.Path.{sym, ◌∙◌}
-use lib.Dec.{lit<}
+use Prim.Native.Nat.{◌+◌, ◌-◌, ◌<◌}
+use mathlib.Core.Path.{◌≡◌, sym, ◌∙◌}
 use native.Mathlib.Omega.{arith}
-use Rattle.paths.specs.Children.{child as child_of}
-use Rattle.paths.specs.ChildLaws.{child_beyond, sought_here, sought-past, sought_next, sought-over}
+use borrow.Author.Tests.{ne_eqb}
+use Rattle.paper.specs.ListLaws.{so_many}
+use Rattle.paths.specs.Children.{letter, child as child_of}
+use Rattle.paths.specs.ChildLaws.{child_beyond, sought_here, sought-past, sought_next, sought-over, named_as}
 use Rattle.paths.proofs.child.Goals as goal
+use Rattle.paths.proofs.child.Goals.{then-letter-here-2, else-letter-here-2}
 
 -- no node is there
-pub returns-then-table-parent : goal.returns-then-table-parent
-returns-then-table-parent c = (sym (child_beyond _ _ _ c.if-table-parent.true), lit< tt)
+pub returns-then-table-parent-clause-value : goal.returns-then-table-parent-clause-value
+returns-then-table-parent-clause-value c = rw (child_beyond c.args.table.now c.args.parent c.args.letter c.if-table-parent.true)
 
-pub overflow_mul-parent : goal.overflow_mul-parent
-overflow_mul-parent c = omega arith
-
-pub overflow_add-parent : goal.overflow_add-parent
-overflow_add-parent c = omega arith
-
-pub overflow_mul-parent-2 : goal.overflow_mul-parent-2
-overflow_mul-parent-2 c = omega arith
-
-pub overflow_add-parent-2 : goal.overflow_add-parent-2
-overflow_add-parent-2 c = omega arith
-
-pub loop-left-init : goal.loop-left-init
+pub loop-at-init : goal.loop-at-init
 unfolding child_of
-loop-left-init c = let first = c.number_at-at.ensures in
-    let count = c.number_at-left.ensures in
-    (rw (first.0, count.0), omega (arith, first.1, count.1))
+loop-at-init c = rw (so_many c.number_at-first.result c.number_at-count.result, c.number_at-first.ensures.0, c.number_at-count.ensures.0)
 
-pub overflow_mul-at : goal.overflow_mul-at
-overflow_mul-at c = omega arith
-
-pub returns-then-letter-here-2 : goal.returns-then-letter-here-2
-returns-then-letter-here-2 c = let turn = c.loop-left in
-    let here = c.if-letter-here-2.true ∙ c.number_at-here.ensures.0 in
-    (sym (sought_here _ _ _ _ c.loop-left-test.true here) ∙ turn.invariant.0, omega (arith, turn.invariant.1))
-
-pub returns-then-letter-here : goal.returns-then-letter-here
-returns-then-letter-here c = let turn = c.loop-left in
+pub returns-then-letter-here-clause-value : goal.returns-then-letter-here-clause-value
+returns-then-letter-here-clause-value c = let turn = c.loop-at in
     let here = c.number_at-here.ensures.0 in
-    (sym (sought-past _ _ _ _ (omega (arith, c.if-letter-here.true, c.if-letter-here-2.false, here))) ∙ turn.invariant.0, lit< tt)
+    elim c.if-letter-here-2.branch [
+      | then-letter-here-2 w ↦
+          let found = sym (sought_here _ _ _ _ (omega arith) (w.if-letter-here-2.true ∙ here)) ∙ turn.invariant in
+          rw (← found) (c.then_some.ensures ∙ rw w.then_some-is (named_as turn.at))
+      | else-letter-here-2 w ↦
+          let past = sym (sought-past _ _ _ _ (omega (arith, c.if-letter-here.true, w.if-letter-here-2.false, here))) ∙ turn.invariant in
+          rw (← past) (c.then_some.ensures ∙ rw (w.then_some-is, ne_eqb c.args.letter c.number_at-here.result w.if-letter-here-2.false))
+    ]
 
-pub overflow_add-at : goal.overflow_add-at
-overflow_add-at c = omega arith
+pub loop-at-preserved : goal.loop-at-preserved
+loop-at-preserved c = let turn = c.loop-at in
+    let count = c.number_at-first.result + c.number_at-count.result - turn.at in
+    let fewer : count - 1 ≡ c.number_at-first.result + c.number_at-count.result - (turn.at + 1) = omega arith in
+    let less : letter c.args.table.now turn.at < c.args.letter = omega (arith, c.if-letter-here.false, c.number_at-here.ensures.0) in
+    rw (← fewer) (sym (sought_next count c.args.table.now c.args.letter turn.at (omega arith) less) ∙ turn.invariant)
 
-pub overflow_sub-left : goal.overflow_sub-left
-overflow_sub-left c = omega arith
-
-pub loop-left-smaller : goal.loop-left-smaller
-loop-left-smaller c = omega arith
-
-pub loop-left-preserved : goal.loop-left-preserved
-loop-left-preserved c = let turn = c.loop-left in
-    let here = c.number_at-here.ensures.0 in (
-      sym (sought_next _ _ _ _ c.loop-left-test.true (omega (arith, c.if-letter-here.false, here))) ∙ turn.invariant.0,
-      omega (arith, turn.invariant.1, c.loop-left-test.true),
-    )
-
-pub returns : goal.returns
-returns c = (sym (sought-over _ _ _ _ c.loop-left-test.false) ∙ c.loop-left.invariant.0, lit< tt)
+pub returns-clause-value : goal.returns-clause-value
+returns-clause-value c =
+    let none = sym (sought-over _ _ _ _ (omega arith)) ∙ c.loop-at.invariant in
+    rw (← none)

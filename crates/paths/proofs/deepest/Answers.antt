@@ -1,81 +1,76 @@
-use mathlib.Core.Path.{sym, ◌∙◌}
+use Prim.Native.Nat.{ℕ, ◌-◌}
+use mathlib.Core.Path.{◌≡◌, refl, sym, ap, ◌∙◌}
 use native.Mathlib.Omega.{arith}
+use lib.ListN.{length}
 use lib.Seq.{take-length}
+use Rattle.std.specs.Slice.Iter.{iter_rest}
+use Rattle.std.specs.Iterator.Adapters.{rev_source}
 use Rattle.paper.specs.Letters.{inward}
-use Rattle.paths.specs.Children.{nodes_in}
+use Rattle.paths.specs.Children.{nodes_in, child as child_of}
+use Rattle.paths.specs.ChildLaws.{named_none, named_some}
+use Rattle.paths.specs.LettersLeft.{Last, all_left, one_passed, before_it, letter_step}
 use Rattle.walks.specs.WalkSteps.{deepest-start, LetterStep, step-missing, step_holding, step-empty, word_over}
 use Rattle.paths.specs.BeyondLaws.{deepest-beyond}
 use Rattle.paths.proofs.deepest.Goals as goal
-use Rattle.paths.proofs.deepest.Goals.{After-child-at}
+use Rattle.paths.proofs.deepest.Goals.{After-child}
+
+-- the letter that the iterator gave
+last : (c : After-child)
+    → Last (iter_rest (rev_source c.loop-letter.letter-iterator)) (iter_rest (rev_source c.next.new.self)) c.in-Some.letter.now
+last c = record { is = c.in-Some.ensures.steps }
 
 -- one letter further
-step_of : (c : After-child-at)
-    → (let a = c.args in
-    let now = c.loop-left in
-    LetterStep (nodes_in a.table.now) a.word.now now.at now.left c.wide.result c.child-at.result)
-step_of c =
-    record {
-      more = c.loop-left-test.true;
-      within = c.loop-left.invariant.2;
-      last = c.wide.ensures.value;
-      stepped = c.child-at.ensures.0;
-    }
+step_of : (c : After-child) (next : ℕ) → next ≡ child_of c.args.table.now c.loop-letter.at c.from.result
+    → LetterStep (nodes_in c.args.table.now) c.args.word.now c.loop-letter.at
+    (length (iter_rest (rev_source c.loop-letter.letter-iterator))) c.from.result next
+step_of c next stepped = letter_step c.loop-letter.invariant.2 (last c) c.from.ensures stepped
 
 -- the table has no such root
 pub returns-then-table-root : goal.returns-then-table-root
 returns-then-table-root c = sym (deepest-beyond _ _ c.if-table-root.true _)
 
-pub overflow_mul-root : goal.overflow_mul-root
-overflow_mul-root c = omega arith
-
-pub overflow_add-root : goal.overflow_add-root
-overflow_add-root c = omega arith
-
-pub loop-left-init : goal.loop-left-init
-loop-left-init c = let a = c.args in (
-  rw (c.number_at-found.ensures.0, take-length) (deepest-start (nodes_in a.table.now) a.root (inward a.word.now)),
-  omega arith,
-  omega arith,
-)
-
-pub overflow_sub-left : goal.overflow_sub-left
-overflow_sub-left c = omega arith
-
-pub bounds-word-left : goal.bounds-word-left
-bounds-word-left c = omega arith
-
-pub returns-then-at-eq0 : goal.returns-then-at-eq0
-returns-then-at-eq0 c = let now = c.loop-left in
-    sym (now.invariant.0 ∙ step-missing (step_of (goal.at.returns-then-at-eq0 c).After-child-at) now.found c.if-at-eq0.true)
-
-pub overflow_mul-at : goal.overflow_mul-at
-overflow_mul-at c = omega arith
-
-pub overflow_add-at : goal.overflow_add-at
-overflow_add-at c = omega arith
-
-pub loop-left-smaller-then-rule-ne0 : goal.loop-left-smaller-then-rule-ne0
-loop-left-smaller-then-rule-ne0 c = omega arith
-
-pub loop-left-preserved-then-rule-ne0 : goal.loop-left-preserved-then-rule-ne0
-loop-left-preserved-then-rule-ne0 c = let now = c.loop-left in
-    let read = c.number_at-rule.ensures.0 in (
-      now.invariant.0 ∙ step_holding (step_of (goal.at.loop-left-preserved-then-rule-ne0 c).After-child-at) now.found _ read c.if-at-eq0.false c.if-rule-ne0.true,
-      omega (arith, c.child-at.ensures.1),
+pub loop-letter-init : goal.loop-letter-init
+loop-letter-init c = let a = c.args in
+    let same : c.into_iter-letter-iterator.result.iter ≡ c.iter.result
+    = ap rev_source c.into_iter-letter-iterator.ensures.into_iter_gives ∙ c.rev-letter-items.ensures.source in
+    let all : iter_rest (rev_source c.into_iter-letter-iterator.result) ≡ a.word.now = ap iter_rest same ∙ c.iter.ensures.rest in (
+      rw (all, c.number_at-found.ensures.0, take-length) (deepest-start (nodes_in a.table.now) a.root (inward a.word.now)),
       omega arith,
+      rw all (all_left a.word.now),
     )
 
-pub loop-left-smaller : goal.loop-left-smaller
-loop-left-smaller c = omega arith
+pub returns-in_default : goal.returns-in_default
+returns-in_default c = let now = c.loop-letter in
+    let none = named_none c.child.ensures.value c.in_default.is in
+    sym (now.invariant.0 ∙ step-missing (step_of (goal.at.returns-in_default c).After-child 0 (sym none)) now.found refl)
 
-pub loop-left-preserved : goal.loop-left-preserved
-loop-left-preserved c = let now = c.loop-left in
-    let read = c.number_at-rule.ensures.0 in (
-      now.invariant.0 ∙ step-empty (step_of (goal.at.loop-left-preserved c).After-child-at) now.found _ read c.if-at-eq0.false c.if-rule-ne0.false,
-      omega (arith, c.child-at.ensures.1),
-      omega arith,
+pub loop-letter-preserved-then-rule-ne0 : goal.loop-letter-preserved-then-rule-ne0
+loop-letter-preserved-then-rule-ne0 c = let now = c.loop-letter in
+    let at = (goal.at.loop-letter-preserved-then-rule-ne0 c).After-child in
+    let some = named_some c.child.ensures.value c.in-Some-child.is in
+    let step = step_of at _ some.0 in
+    let fewer : length (iter_rest (rev_source c.loop-letter.letter-iterator)) - 1 ≡ length (iter_rest (rev_source c.next.new.self))
+    = omega (arith, before_it (last at)) in (
+      now.invariant.0
+          ∙ rw (← fewer) (step_holding step now.found c.number_at-rule.result c.number_at-rule.ensures.0 some.1 c.if-rule-ne0.true),
+      omega (arith, c.in-Some-child.ensures.upper_bound),
+      one_passed now.invariant.2 (last at),
+    )
+
+pub loop-letter-preserved : goal.loop-letter-preserved
+loop-letter-preserved c = let now = c.loop-letter in
+    let at = (goal.at.loop-letter-preserved c).After-child in
+    let some = named_some c.child.ensures.value c.in-Some-child.is in
+    let step = step_of at _ some.0 in
+    let fewer : length (iter_rest (rev_source c.loop-letter.letter-iterator)) - 1 ≡ length (iter_rest (rev_source c.next.new.self))
+    = omega (arith, before_it (last at)) in (
+      now.invariant.0
+          ∙ rw (← fewer) (step-empty step now.found c.number_at-rule.result c.number_at-rule.ensures.0 some.1 c.if-rule-ne0.false),
+      omega (arith, c.in-Some-child.ensures.upper_bound),
+      one_passed now.invariant.2 (last at),
     )
 
 pub returns : goal.returns
-returns c = let now = c.loop-left in
-    sym (now.invariant.0 ∙ word_over _ _ now.at now.found now.left c.loop-left-test.false)
+returns c = let now = c.loop-letter in
+    let over = c.in-None.ensures.steps in
+    sym (now.invariant.0 ∙ word_over _ _ now.at now.found _ (omega (arith, over.0)))

@@ -1,60 +1,59 @@
-use Prim.Native.Nat.{◌-◌}
-use mathlib.Core.Path.{sym, ◌∙◌}
+use Prim.Native.Nat.{ℕ, ◌-◌}
+use mathlib.Core.Path.{◌≡◌, refl, sym, ap, ◌∙◌}
 use native.Mathlib.Omega.{arith}
-use Rattle.paths.specs.Children.{nodes_in}
+use lib.ListN.{length}
+use Rattle.std.specs.Slice.Iter.{iter_rest}
+use Rattle.std.specs.Iterator.Adapters.{rev_source}
+use Rattle.paths.specs.Children.{nodes_in, child as child_of}
+use Rattle.paths.specs.ChildLaws.{named_none, named_some}
+use Rattle.paths.specs.LettersLeft.{Last, all_left, one_passed, before_it, letter_step}
 use Rattle.walks.specs.WalkSteps.{LetterStep, reached_root, reached_on, reached_end, held_nowhere, held_reached}
 use Rattle.paths.specs.BeyondLaws.{held_beyond}
 use Rattle.paths.proofs.held_at.Goals as goal
-use Rattle.paths.proofs.held_at.Goals.{After-child-at}
+use Rattle.paths.proofs.held_at.Goals.{After-child}
+
+-- the letter that the iterator gave
+last : (c : After-child)
+    → Last (iter_rest (rev_source c.loop-letter.letter-iterator)) (iter_rest (rev_source c.next.new.self)) c.in-Some.letter.now
+last c = record { is = c.in-Some.ensures.steps }
 
 -- one letter further
-step_of : (c : After-child-at)
-    → (let a = c.args in
-    let now = c.loop-left in
-    LetterStep (nodes_in a.table.now) a.ending.now now.at now.left c.wide.result c.child-at.result)
-step_of c =
-    record {
-      more = c.loop-left-test.true;
-      within = c.loop-left.invariant.2;
-      last = c.wide.ensures.value;
-      stepped = c.child-at.ensures.0;
-    }
+step_of : (c : After-child) (next : ℕ) → next ≡ child_of c.args.table.now c.loop-letter.at c.from.result
+    → LetterStep (nodes_in c.args.table.now) c.args.ending.now c.loop-letter.at
+    (length (iter_rest (rev_source c.loop-letter.letter-iterator))) c.from.result next
+step_of c next stepped = letter_step c.loop-letter.invariant.2 (last c) c.from.ensures stepped
 
 -- the table has no such root
 pub returns-then-table-root : goal.returns-then-table-root
 returns-then-table-root c = sym (held_beyond _ _ c.if-table-root.true _)
 
-pub loop-left-init : goal.loop-left-init
-loop-left-init c = let a = c.args in
-    (reached_root (nodes_in a.table.now) a.root a.ending.now, omega arith, omega arith)
+pub loop-letter-init : goal.loop-letter-init
+loop-letter-init c = let a = c.args in
+    let same : c.into_iter-letter-iterator.result.iter ≡ c.iter.result
+    = ap rev_source c.into_iter-letter-iterator.ensures.into_iter_gives ∙ c.rev-letter-items.ensures.source in
+    let all : iter_rest (rev_source c.into_iter-letter-iterator.result) ≡ a.ending.now = ap iter_rest same ∙ c.iter.ensures.rest in
+    (rw all (reached_root (nodes_in a.table.now) a.root a.ending.now), omega arith, rw all (all_left a.ending.now))
 
-pub overflow_sub-left : goal.overflow_sub-left
-overflow_sub-left c = omega arith
+pub returns-in_default : goal.returns-in_default
+returns-in_default c = let a = c.args in
+    let now = c.loop-letter in
+    let none = named_none c.child.ensures.value c.in_default.is in
+    let step = step_of (goal.at.returns-in_default c).After-child 0 (sym none) in
+    sym (held_nowhere (nodes_in a.table.now) a.root a.ending.now _ (reached_end step a.root now.invariant.0 refl))
 
-pub bounds-ending-left : goal.bounds-ending-left
-bounds-ending-left c = omega arith
-
-pub returns-then-at-eq0 : goal.returns-then-at-eq0
-returns-then-at-eq0 c = let a = c.args in
-    let now = c.loop-left in
-    sym (held_nowhere (nodes_in a.table.now) a.root a.ending.now (now.left - 1)
-    (reached_end (step_of (goal.at.returns-then-at-eq0 c).After-child-at) a.root now.invariant.0 c.if-at-eq0.true))
-
-pub loop-left-smaller : goal.loop-left-smaller
-loop-left-smaller c = omega arith
-
-pub loop-left-preserved : goal.loop-left-preserved
-loop-left-preserved c = let now = c.loop-left in
-    (reached_on (step_of (goal.at.loop-left-preserved c).After-child-at) _ now.invariant.0 c.if-at-eq0.false, omega (arith, c.child-at.ensures.1), omega arith)
-
-pub overflow_mul-at : goal.overflow_mul-at
-overflow_mul-at c = omega arith
-
-pub overflow_add-at : goal.overflow_add-at
-overflow_add-at c = omega arith
+pub loop-letter-preserved : goal.loop-letter-preserved
+loop-letter-preserved c = let now = c.loop-letter in
+    let at = (goal.at.loop-letter-preserved c).After-child in
+    let some = named_some c.child.ensures.value c.in-Some-child.is in
+    let fewer : length (iter_rest (rev_source now.letter-iterator)) - 1 ≡ length (iter_rest (rev_source c.next.new.self))
+    = omega (arith, before_it (last at)) in (
+      rw (← fewer) (reached_on (step_of at _ some.0) c.args.root now.invariant.0 some.1),
+      omega (arith, c.in-Some-child.ensures.upper_bound),
+      one_passed now.invariant.2 (last at),
+    )
 
 pub returns : goal.returns
 returns c = let a = c.args in
-    let loop = c.loop-left in
-    c.number_at.ensures.0 ∙ held_reached (nodes_in a.table.now) a.root a.ending.now loop.at loop.left
-    c.loop-left-test.false loop.invariant.0
+    let now = c.loop-letter in
+    let over = c.in-None.ensures.steps in
+    c.number_at.ensures.0 ∙ held_reached (nodes_in a.table.now) a.root a.ending.now now.at _ (omega (arith, over.0)) now.invariant.0

@@ -12,7 +12,7 @@ use Rattle.readings.proofs.Tests.{reads_1b, cuts_1b, last_1b}
 use Rattle.readings.proofs.cut_1b.Goals as goal
 
 pub returns-then-last : goal.returns-then-last
-returns-then-last c = c.cut_by.ensures group_1b c.requires (whole (reads_1b _ c.group_1b-rules.ensures)) cuts_1b
+returns-then-last c = c.cut_by.ensures group_1b c.requires (whole (reads_1b _ c.table-rules.ensures)) cuts_1b
 
 pub returns : goal.returns
 unfolding letters among opens_next

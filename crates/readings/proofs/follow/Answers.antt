@@ -5,4 +5,4 @@ use Rattle.readings.proofs.follow.Goals as goal
 
 pub returns : goal.returns
 returns c = let pre = c.requires in
-    c.write_pair.ensures follow_up pre.stands (paired_follow_up _ _ c.follow_up-rules.ensures) pre.word_in_bounds
+    c.write_pair.ensures follow_up pre.stands (paired_follow_up _ _ c.table-rules.ensures) pre.word_in_bounds

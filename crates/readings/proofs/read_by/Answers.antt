@@ -51,9 +51,6 @@ step_2-after_2-requires c =
       word_in_bounds = omega (arith, long, (shipped_reads c.args.word.now).0.1.1, t.auto.word, c.step_1b-after_1b.auto.word);
     }
 
-pub slice_bounds-cut_last-end-2 : goal.slice_bounds-cut_last-end-2
-slice_bounds-cut_last-end-2 c = sym (length-take-le _ _ c.step_2-after_2.ensures.stands.within)
-
 pub returns : goal.returns
 returns c =
     let at = goal.at.returns c in

@@ -14,4 +14,4 @@ returns-then-letter_at-ne115 c = let word = c.args.word.now in
     (none_last word (letters "s") group_1a last_1a (rw (← c.letter_at.ensures) (not_one _ 115 c.if-letter_at-ne115.true)))
 
 pub returns : goal.returns
-returns c = c.cut_free.ensures group_1a (whole (reads_1a _ c.group_1a-rules.ensures)) free_1a cuts_1a
+returns c = c.cut_free.ensures group_1a (whole (reads_1a _ c.table-rules.ensures)) free_1a cuts_1a

@@ -42,9 +42,6 @@ module _ (c : After-cut_1b-left) where
   unfolding leaves_opened
   then_stays is = rw (opened is) (sym front)
 
-pub slice_bounds-cut_1b-end-2 : goal.slice_bounds-cut_1b-end-2
-slice_bounds-cut_1b-end-2 c = sym (length-take-le _ _ c.requires.stands.within)
-
 pub follow-requires : goal.follow-requires
 follow-requires c =
     let read = (goal.at.follow-requires c).After-cut_1b-left in

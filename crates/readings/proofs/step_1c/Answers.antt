@@ -1,7 +1,5 @@
 -- `readings::step_1c` meets its contract: the one ending of group 1c is y.
-use mathlib.Core.Path.{sym}
 use lib.ListN.{take}
-use lib.Seq.{length-take-le}
 use Rattle.paper.specs.Letters.{letters}
 use Rattle.paper.specs.FirstFits.{not_one}
 use Rattle.paper.specs.Shipped.{group_1c}
@@ -9,9 +7,6 @@ use Rattle.groups.specs.ReadsLaws.{stays}
 use Rattle.readings.proofs.Narrow.{none_last, whole}
 use Rattle.readings.proofs.Tests.{reads_1c, last_1c}
 use Rattle.readings.proofs.step_1c.Goals as goal
-
-pub slice_bounds-letter_at-end-2 : goal.slice_bounds-letter_at-end-2
-slice_bounds-letter_at-end-2 c = sym (length-take-le _ _ c.requires.stands.within)
 
 pub returns-then-letter_at-ne121 : goal.returns-then-letter_at-ne121
 unfolding letters
@@ -21,4 +16,4 @@ returns-then-letter_at-ne121 c = let word = take c.args.len c.args.word.now in
 
 pub returns : goal.returns
 returns c = let pre = c.requires in
-    c.write_by.ensures group_1c pre.stands (whole (reads_1c _ c.group_1c-rules.ensures)) pre.word_in_bounds
+    c.write_by.ensures group_1c pre.stands (whole (reads_1c _ c.table-rules.ensures)) pre.word_in_bounds

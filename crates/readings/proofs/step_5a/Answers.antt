@@ -19,4 +19,4 @@ pub returns : goal.returns
 unfolding letters
 returns c = let word = c.args.word.now in
     let ends = ends_one word 101 (omega arith) (sym c.letter_at.ensures ∙ c.if-letter_at-ne101.false) in
-    c.cut_pair.ensures group_5a c.requires (paired_5a _ word c.group_5a-rules.ensures ends) cuts_5a
+    c.cut_pair.ensures group_5a c.requires (paired_5a _ word c.table-rules.ensures ends) cuts_5a

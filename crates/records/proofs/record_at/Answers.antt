@@ -1,75 +1,54 @@
--- `records::record_at` meets its contract: the frame says whether the record is cut, and the tests of its kind the rest.
-use Prim.Native.Nat.{ℕ}
+-- `records::record_at` meets its contract: the frame says whether the record is cut, and its kind the rest.
 use mathlib.Core.Path.{◌≡◌, sym, ◌∙◌}
 use mathlib.Core.Bool.{Bool, not, cond, ◌||◌}
-use mathlib.Core.List.{List}
-use lib.Dec.{eqb}
-use lib.ListN.{length}
-use Rattle.records.specs.declared.framing.Frame.TheVariants.{Whole, Cut}
-use Rattle.records.specs.declared.Record.TheVariants.{End, Faulty}
+use Rattle.std.proofs.Common.{ℕ, List, None, Some, eqb, length, arith}
+use Rattle.records.specs.declared.Record.TheVariants.{End}
 use Rattle.records.specs.FramingLaws.{FramedAt, framed}
 use Rattle.records.specs.RecordAnswers.{group_record, rule_record, end_record, record_at}
 use Rattle.records.specs.FrameCases.{frame_cut, frame_group, frame_rule, frame_end, frame_other, end_judged}
 use Rattle.records.proofs.record_at.Goals as goal
-use Rattle.records.proofs.record_at.Goals.{In-Whole}
+use Rattle.records.proofs.record_at.Goals.{In_ok-kind}
 
 -- a record of kind 3 is an end, or faulty as an end
 module _ (sheet : List ℕ) (at : ℕ) {k b next : ℕ} (is : FramedAt sheet at k b next) (three : k ≡ 3) where
-  end_by : {test : Bool} → (not (eqb next b) || not (eqb next (length sheet))) ≡ test → cond test Faulty End ≡ record_at sheet at
+  end_by : {test : Bool} → (not (eqb next b) || not (eqb next (length sheet))) ≡ test → cond test None (Some End) ≡ record_at sheet at
   unfolding record_at end_record
   end_by tested =
       rw (← tested, end_judged sheet at is) (frame_end group_record rule_record end_record sheet at is three)
 
 -- what the frame says
-frame-of : (c : In-Whole)
-    → (let args = c.args in
-    FramedAt args.sheet.now args.at c.in-Whole.kind c.in-Whole.body c.in-Whole.next)
+frame-of : (c : In_ok-kind)
+    → (let args = c.args in let frame = c.in_ok-kind.field-0 in FramedAt args.sheet.now args.at frame.kind frame.body frame.next)
 frame-of c =
     let args = c.args in
-    framed args.sheet.now args.at (Whole c.in-Whole.kind c.in-Whole.body c.in-Whole.next)
-    (sym c.frame_at-frame.ensures ∙ c.in-Whole.is)
+    framed args.sheet.now args.at (Some c.in_ok-kind.field-0) (sym c.frame_at.ensures.frame ∙ c.in_ok-kind.was)
 
-pub slice_bounds-group_in-count : goal.slice_bounds-group_in-count
-slice_bounds-group_in-count c = (frame-of (goal.at.slice_bounds-group_in-count c).In-Whole).ahead
-
-pub slice_bounds-group_in-start : goal.slice_bounds-group_in-start
-slice_bounds-group_in-start c = (frame-of (goal.at.slice_bounds-group_in-start c).In-Whole).ahead
-
-pub slice_bounds-group_in-end : goal.slice_bounds-group_in-end
-slice_bounds-group_in-end c = (frame-of (goal.at.slice_bounds-group_in-end c).In-Whole).inside
-
-pub returns-then-kind-eq1 : goal.returns-then-kind-eq1
+pub returns-in_err-kind : goal.returns-in_err-kind
 unfolding record_at
-returns-then-kind-eq1 c = c.group_in.ensures
-    ∙ frame_group group_record rule_record end_record _ _ (frame-of (goal.at.returns-then-kind-eq1 c).In-Whole) c.if-kind-eq1.true
+returns-in_err-kind c =
+    let args = c.args in
+    let short = framed args.sheet.now args.at None (sym c.frame_at.ensures.frame ∙ c.in_err-kind.was) in
+    c.from_residual.ensures ∙ frame_cut group_record rule_record end_record args.sheet.now args.at short
 
-pub slice_bounds-rule_in-count : goal.slice_bounds-rule_in-count
-slice_bounds-rule_in-count c = (frame-of (goal.at.slice_bounds-rule_in-count c).In-Whole).ahead
-
-pub slice_bounds-rule_in-start : goal.slice_bounds-rule_in-start
-slice_bounds-rule_in-start c = (frame-of (goal.at.slice_bounds-rule_in-start c).In-Whole).ahead
-
-pub slice_bounds-rule_in-end : goal.slice_bounds-rule_in-end
-slice_bounds-rule_in-end c = (frame-of (goal.at.slice_bounds-rule_in-end c).In-Whole).inside
-
-pub returns-then-kind-eq2 : goal.returns-then-kind-eq2
+pub returns-in-1 : goal.returns-in-1
 unfolding record_at
-returns-then-kind-eq2 c = c.rule_in.ensures
-    ∙ frame_rule group_record rule_record end_record _ _ (frame-of (goal.at.returns-then-kind-eq2 c).In-Whole) c.if-kind-eq2.true
+returns-in-1 c =
+    c.group_in.ensures
+    ∙ frame_group group_record rule_record end_record _ _ (frame-of (goal.at.returns-in-1 c).In_ok-kind) c.in-1.is
 
-pub returns-then-kind-ne3 : goal.returns-then-kind-ne3
+pub returns-in-2 : goal.returns-in-2
 unfolding record_at
-returns-then-kind-ne3 c = frame_other group_record rule_record end_record _ _ (frame-of (goal.at.returns-then-kind-ne3 c).In-Whole)
-    c.if-kind-eq1.false c.if-kind-eq2.false c.if-kind-ne3.true
+returns-in-2 c =
+    c.rule_in.ensures
+    ∙ frame_rule group_record rule_record end_record _ _ (frame-of (goal.at.returns-in-2 c).In_ok-kind) c.in-2.is
 
-pub returns-then-faulty_end : goal.returns-then-faulty_end
-returns-then-faulty_end c = end_by _ _ (frame-of (goal.at.returns-then-faulty_end c).In-Whole) c.if-kind-ne3.false (sym c.faulty_end.ensures ∙ c.if-faulty_end.true)
+pub returns-in-3 : goal.returns-in-3
+returns-in-3 c = end_by _ _ (frame-of (goal.at.returns-in-3 c).In_ok-kind) c.in-3.is (sym c.if-not-faulty_end.ensures)
 
-pub returns-in-Cut : goal.returns-in-Cut
+pub returns-in_default : goal.returns-in_default
+returns-in_default c = end_by _ _ (frame-of (goal.at.returns-in_default c).In_ok-kind) c.in-3.is (sym c.if-not-faulty_end.ensures)
+
+pub returns-in_default-2 : goal.returns-in_default-2
 unfolding record_at
-returns-in-Cut c = let args = c.args in
-    let short = framed args.sheet.now args.at Cut (sym c.frame_at-frame.ensures ∙ c.in-Cut.is) in
-    frame_cut group_record rule_record end_record args.sheet.now args.at short
-
-pub returns-else-faulty_end : goal.returns-else-faulty_end
-returns-else-faulty_end c = end_by _ _ (frame-of (goal.at.returns-else-faulty_end c).In-Whole) c.if-kind-ne3.false (sym c.faulty_end.ensures ∙ c.if-faulty_end.false)
+returns-in_default-2 c = frame_other group_record rule_record end_record _ _
+    (frame-of (goal.at.returns-in_default-2 c).In_ok-kind) (λ is. omega (arith, is)) (λ is. omega (arith, is)) (λ is. omega (arith, is))

@@ -4,8 +4,8 @@ use lib.ListN.{length}
 use Rattle.sheets.specs.NodeLaws.{Counting}
 use Rattle.sheets.proofs.count_nodes.Given as goal
 
-abbrev pub invariant-loop-at : goal.invariant-loop-at
-invariant-loop-at l = (l.at ≤ length l.sheet) × Counting l.sheet l.at l.nodes l.first l.count
+abbrev pub invariant-loop-record : goal.invariant-loop-record
+invariant-loop-record l = (l.at ≤ length l.bytes) × Counting l.bytes l.at l.nodes l.first l.count
 
-abbrev pub decreases-loop-at : goal.decreases-loop-at
-decreases-loop-at l = length l.sheet - l.at
+abbrev pub decreases-loop-record : goal.decreases-loop-record
+decreases-loop-record l = length l.bytes - l.at

@@ -5,8 +5,8 @@ use lib.ListN.{length}
 use Rattle.sheets.specs.ReadLaws.{Reading}
 use Rattle.sheets.proofs.read.Given as goal
 
-abbrev pub invariant-loop-at : goal.invariant-loop-at
-invariant-loop-at l = (l.at ≤ length l.sheet) × (l.groups ≤ 16) × (l.rules ≤ 128) × Reading l.sheet l.at l.groups l.rules
+abbrev pub invariant-loop-record : goal.invariant-loop-record
+invariant-loop-record l = (l.at ≤ length l.sheet) × (l.groups ≤ 16) × (l.rules ≤ 128) × Reading l.sheet l.at l.groups l.rules
 
-abbrev pub decreases-loop-at : goal.decreases-loop-at
-decreases-loop-at l = length l.sheet - l.at
+abbrev pub decreases-loop-record : goal.decreases-loop-record
+decreases-loop-record l = length l.sheet - l.at

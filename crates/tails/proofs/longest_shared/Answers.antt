@@ -1,18 +1,12 @@
-use Prim.Native.Nat.{ℕ, zero, suc, ◌-◌, ◌≤◌, ◌<◌, max}
-use mathlib.Core.Path.{◌≡◌, refl, sym, ap, ◌∙◌}
-use mathlib.Core.Bool.{true, false}
-use mathlib.Core.List.{List, [], ◌∷◌, ◌++◌}
-use native.Mathlib.Omega.{arith}
-use lib.ListN.{take, drop}
+use Rattle.std.proofs.Common.{ℕ, zero, suc, ◌+◌, ◌-◌, ◌≤◌, ◌<◌, max, ◌≡◌, refl, true, false, Some, None, List, [], ◌∷◌, ◌++◌, take, drop}
+use Rattle.std.proofs.Common.{sym, ap, ◌∙◌, arith}
 use Rattle.paper.specs.Nodes.{tails, member}
 use Rattle.paper.specs.LookBack.{shared, shared-append}
-use Rattle.records.specs.declared.framing.Frame.TheVariants.{Whole, Cut}
 use Rattle.records.specs.Framing.{body, after, cut}
 use Rattle.records.specs.FramingLaws.{FramedAt, framed, beyond}
 use Rattle.records.specs.Records.{ending}
 use Rattle.tails.specs.Earlier.{tails_in}
 use Rattle.tails.proofs.longest_shared.Goals as goal
-use Rattle.tails.proofs.longest_shared.Goals.{In-Whole}
 
 nothing_shared : (e : List ℕ) → shared e [] ≡ 0
 unfolding shared member
@@ -44,56 +38,33 @@ one_less e left sheet other place some is other-is =
     ∙ (shared-append e (tails (ending (body (drop place sheet)))) (tails_in (left - 1) (after (drop place sheet)))
     ∙ rw (other-is, is.body_is, is.next_is, beyond sheet place))
 
--- what the frame of the rule says
-frame-of : (c : In-Whole)
-    → (let turn = c.loop-left in
-    FramedAt c.args.sheet.now turn.place c.in-Whole.kind c.in-Whole.body
-    c.in-Whole.next)
-frame-of c =
-    let turn = c.loop-left in
-    framed c.args.sheet.now turn.place
-    (Whole c.in-Whole.kind c.in-Whole.body c.in-Whole.next)
-    (sym c.frame_at-frame.ensures ∙ c.in-Whole.is)
-
-pub loop-left-init : goal.loop-left-init
-loop-left-init c = omega arith
-
-pub returns-in-Cut : goal.returns-in-Cut
-returns-in-Cut c = let turn = c.loop-left in
+pub returns-in_default : goal.returns-in_default
+returns-in_default c =
+    let turn = c.loop in
     let args = c.args in
-    let short = framed args.sheet.now turn.place Cut (sym c.frame_at-frame.ensures ∙ c.in-Cut.is) in
-    let none = none_cut args.ending.now (drop turn.place args.sheet.now) turn.left short in
+    let short = framed args.sheet.now turn.place None (sym c.in_default.ensures.frame) in
+    let none = none_cut args.ending.now (drop turn.place args.sheet.now) (args.count - turn.counter) short in
     let all = turn.invariant in
     omega arith
 
-pub slice_bounds-ending_in-count : goal.slice_bounds-ending_in-count
-slice_bounds-ending_in-count c = (frame-of (goal.at.slice_bounds-ending_in-count c).In-Whole).ahead
-
-pub slice_bounds-ending_in-start : goal.slice_bounds-ending_in-start
-slice_bounds-ending_in-start c = (frame-of (goal.at.slice_bounds-ending_in-start c).In-Whole).ahead
-
-pub slice_bounds-ending_in-end : goal.slice_bounds-ending_in-end
-slice_bounds-ending_in-end c = (frame-of (goal.at.slice_bounds-ending_in-end c).In-Whole).inside
-
-pub overflow_sub-left : goal.overflow_sub-left
-overflow_sub-left c = omega arith
-
-pub loop-left-smaller : goal.loop-left-smaller
-loop-left-smaller c = omega arith
-
-pub loop-left-preserved : goal.loop-left-preserved
-loop-left-preserved c = let turn = c.loop-left in
+pub loop-preserved : goal.loop-preserved
+loop-preserved c =
+    let turn = c.loop in
     let args = c.args in
+    let is = framed args.sheet.now turn.place (Some c.in-Some.frame) (sym c.in-Some.ensures.frame) in
     let step =
-    one_less args.ending.now turn.left args.sheet.now c.ending_in.result.now turn.place
-    c.loop-left-test.true (frame-of (goal.at.loop-left-preserved c).In-Whole) c.ending_in.ensures in
+    one_less args.ending.now (args.count - turn.counter) args.sheet.now c.ending_in-earlier.result.now turn.place (omega arith) is
+    c.ending_in-earlier.ensures in
     let so_far = turn.invariant in
     let one = c.longer-longest.ensures in
+    let less : args.count - turn.counter - 1 ≡ args.count - (turn.counter + 1) = omega arith in
+    let left = ap (λ (n : ℕ). shared args.ending.now (tails_in n (drop c.in-Some.frame.next args.sheet.now))) less in
     omega arith
 
 pub returns : goal.returns
-returns c = let args = c.args in
-    let turn = c.loop-left in
-    let none = none_left args.ending.now (drop turn.place args.sheet.now) turn.left c.loop-left-test.false in
+returns c =
+    let args = c.args in
+    let turn = c.loop in
+    let none = none_left args.ending.now (drop turn.place args.sheet.now) (args.count - turn.counter) (omega arith) in
     let all = turn.invariant in
     omega arith

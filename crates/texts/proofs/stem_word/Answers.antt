@@ -3,6 +3,7 @@ use mathlib.Core.Path.{◌≡◌, sym, ap, ◌∙◌}
 use Prim.Native.Nat.{ℕ}
 use mathlib.Core.Bool.{Bool, true}
 use mathlib.Core.List.{List, map}
+use borrow.Author.Tests.{eqb-true}
 use Rattle.paper.specs.Shipped.{shipped}
 use Rattle.paper.specs.Words.{stem, all_small, Outcome, outcome}
 use Rattle.exceptions.specs.Judged.{judged_outcome}
@@ -20,13 +21,13 @@ stays : (word : List ℕ) {small : Bool} → small ≡ all_small word → small 
 stays word is small = sym (all_stay word (sym is ∙ small))
 
 -- where the arms of the branch meet, the letters are small
-pub returns-then-list-eq0 : goal.returns-then-list-eq0
-returns-then-list-eq0 c =
+pub returns-then-is_empty : goal.returns-then-is_empty
+returns-then-is_empty c =
     let word = c.args.word.now in
     let list = c.args.list.now in
     let made : c.if-not-small.word ≡ map lowered word = elim c.if-not-small.branch [ then-not-small w ↦ w.word-is ∙ w.make_small.ensures | else-not-small w ↦ w.word-is ∙ stays word c.requires.small_value w.if-not-small.false ] in
     let answers = rule_answers list (map lowered word) in
-    let none : rule_with list ≡ stem shipped = rule_none list c.if-list-eq0.true in
+    let none : rule_with list ≡ stem shipped = rule_none list (eqb-true _ 0 (sym c.if-is_empty.ensures)) in
     stemmed_word (rule_with list) word _ answers.0 c.requires.word c.requires.word_len_bound answers.1
     (rw none (c.stem.ensures.place_is ∙ ap (λ l. (outcome l).place) made))
 

@@ -1,75 +1,71 @@
-use Prim.Native.Nat.{◌+◌, ◌≤◌}
-use mathlib.Core.Path.{◌≡◌, sym, ap, ◌∙◌}
-use native.Mathlib.Omega.{arith}
-use lib.ListN.{length, drop, length-drop}
+use Rattle.std.proofs.Common.{ℕ, ◌≡◌, ◌<◌, false, eqb, ◌≤◌, ok_or, Option, Some, None, Ok, Err, length, refl, sym, ◌∙◌, arith}
+use Rattle.std.proofs.lemmas.Result.{err_from_is_err_and}
+use borrow.Author.Tests.{eqb-true, eqb-false}
 use Rattle.paper.specs.ListLaws.{to_the_end, so_many}
+use Rattle.paper.specs.TestLaws.{apart}
 use Rattle.vocabularies.specs.Reading.{found_in, size}
-use Rattle.vocabularies.specs.Passing.{starts, not_of_form, word_long, word_taken, line_inside, next}
-use Rattle.vocabularies.specs.Passing.{all_passed}
-use Rattle.vocabularies.specs.declared.Found.TheVariants.{Line}
+use Rattle.vocabularies.specs.Passing.{starts, not_of_form, word_long, word_taken, line_inside, next, all_passed}
 use Rattle.vocabularies.proofs.check.Goals as goal
-use Rattle.vocabularies.proofs.check.Goals.{After-line, In-Line}
+use Rattle.vocabularies.proofs.check.Goals.{In_ok-found}
 
--- what was found in the part that was lent, said of the rest of the list
-found : (c : After-line) → found_in (drop c.loop-at.at c.args.list.now) ≡ c.line.result
-found c = ap found_in (sym (to_the_end c.args.list.now c.loop-at.at)) ∙ sym c.line.ensures
+some_found : {A E : Type 0} (found : Option A) (refusal : E) {one : A} → ok_or found refusal ≡ Ok one → found ≡ Some one
+some_found (Some other) refusal is = cc
+some_found None refusal is = apart (cc)
 
-module _ (c : In-Line) (known : found_in (drop c.loop-at.at c.args.list.now) ≡ c.line.result) where
-  line : found_in (drop c.loop-at.at c.args.list.now) ≡ Line c.in-Line.word c.in-Line.stem
-  line = known ∙ c.in-Line.is
+none_found : {A E : Type 0} (found : Option A) (refusal : E) {given : E} → ok_or found refusal ≡ Err given → (found ≡ None) × (given ≡ refusal)
+none_found (Some other) refusal is = apart (cc)
+none_found None refusal is = (refl, cc)
 
-  inside : c.loop-at.at + size c.in-Line.word c.in-Line.stem ≤ length c.args.list.now
-  inside = line_inside c.loop-at.invariant.1 _ _ line c.loop-at-test.true
+some_left : {n : ℕ} → false ≡ eqb n 0 → 0 < n
+some_left {n = n} is = let some = eqb-false n 0 (sym is) in omega arith
 
-pub loop-at-init : goal.loop-at-init
-loop-at-init c = (omega arith, starts _)
+-- the line that was found
+line : (c : In_ok-found) → found_in c.loop-rest.rest.now ≡ Some c.in_ok-found.found
+line c = sym c.line.ensures ∙ some_found c.line.result _ (sym c.in_ok-found.ensures.value)
 
-pub overflow_add-number : goal.overflow_add-number
-overflow_add-number c = omega (arith, c.loop-at-test.true, c.loop-at.invariant.1.few)
+inside : (c : In_ok-found) → size c.in_ok-found.found.word c.in_ok-found.found.stem ≤ length c.loop-rest.rest.now
+inside c = line_inside c.loop-rest.invariant _ _ (line c)
+
+pub loop-rest-init : goal.loop-rest-init
+loop-rest-init c = starts _
+
+pub returns-in_err-found : goal.returns-in_err-found
+returns-in_err-found c =
+    let p = err_from_is_err_and c.from_residual.result c.from_residual.ensures.1 in
+    let none = none_found c.line.result _ (sym c.in_err-found.ensures.value) in
+    rw (p.1, p.2, none.1) (not_of_form c.loop-rest.invariant (some_left c.loop-rest-test.ensures) (sym c.line.ensures ∙ none.0))
 
 pub overflow_add-end : goal.overflow_add-end
-overflow_add-end c = omega (arith, inside (goal.at.overflow_add-end c).In-Line (found (goal.at.overflow_add-end c).After-line))
+overflow_add-end c = omega (arith, inside (goal.at.overflow_add-end c).In_ok-found)
 
-pub overflow_add-end-in-Line : goal.overflow_add-end-in-Line
-overflow_add-end-in-Line c = omega (arith, inside (goal.at.overflow_add-end-in-Line c).In-Line (found (goal.at.overflow_add-end-in-Line c).After-line))
+pub overflow_add-end-in-loop-rest : goal.overflow_add-end-in-loop-rest
+overflow_add-end-in-loop-rest c = omega (arith, inside (goal.at.overflow_add-end-in-loop-rest c).In_ok-found)
 
 pub slice_bounds-noted-end : goal.slice_bounds-noted-end
-slice_bounds-noted-end c = rw to_the_end (word_long c.loop-at.invariant.1 _ _ (line (goal.at.slice_bounds-noted-end c).In-Line (found (goal.at.slice_bounds-noted-end c).After-line)))
+slice_bounds-noted-end c = word_long c.loop-rest.invariant _ _ (line (goal.at.slice_bounds-noted-end c).In_ok-found)
 
-pub overflow_add-word : goal.overflow_add-word
-overflow_add-word c = omega (arith, inside (goal.at.overflow_add-word c).In-Line (found (goal.at.overflow_add-word c).After-line))
+pub overflow_add-found : goal.overflow_add-found
+overflow_add-found c = omega (arith, inside (goal.at.overflow_add-found c).In_ok-found)
 
-pub slice_bounds-noted-count : goal.slice_bounds-noted-count
-slice_bounds-noted-count c = omega arith
-
-pub slice_bounds-noted-start : goal.slice_bounds-noted-start
-slice_bounds-noted-start c = omega arith
-
-pub slice_bounds-noted-end-in-Line : goal.slice_bounds-noted-end-in-Line
-slice_bounds-noted-end-in-Line c = let list = c.args.list.now in
-    omega (arith, inside (goal.at.slice_bounds-noted-end-in-Line c).In-Line (found (goal.at.slice_bounds-noted-end-in-Line c).After-line), length-drop c.loop-at.at list, ap length (to_the_end list c.loop-at.at))
+pub slice_bounds-noted-end-in-loop-rest : goal.slice_bounds-noted-end-in-loop-rest
+slice_bounds-noted-end-in-loop-rest c = omega (arith, inside (goal.at.slice_bounds-noted-end-in-loop-rest c).In_ok-found)
 
 pub noted-first_wrong-requires : goal.noted-first_wrong-requires
-noted-first_wrong-requires c = rw to_the_end (word_taken c.loop-at.invariant.1 _ _ (line (goal.at.noted-first_wrong-requires c).In-Line (found (goal.at.noted-first_wrong-requires c).After-line)))
+noted-first_wrong-requires c = word_taken c.loop-rest.invariant _ _ (line (goal.at.noted-first_wrong-requires c).In_ok-found)
 
-pub overflow_add-at : goal.overflow_add-at
-overflow_add-at c = omega (arith, inside (goal.at.overflow_add-at c).In-Line (found (goal.at.overflow_add-at c).After-line))
+pub overflow_add-rest : goal.overflow_add-rest
+overflow_add-rest c = omega (arith, inside (goal.at.overflow_add-rest c).In_ok-found)
 
-pub overflow_add-at-in-Line : goal.overflow_add-at-in-Line
-overflow_add-at-in-Line c = omega (arith, inside (goal.at.overflow_add-at-in-Line c).In-Line (found (goal.at.overflow_add-at-in-Line c).After-line))
+pub slice_bounds-rest-count : goal.slice_bounds-rest-count
+slice_bounds-rest-count c = omega (arith, inside (goal.at.slice_bounds-rest-count c).In_ok-found)
 
-pub loop-at-smaller : goal.loop-at-smaller
-loop-at-smaller c = omega (arith, inside (goal.at.loop-at-smaller c).In-Line (found (goal.at.loop-at-smaller c).After-line))
+pub slice_bounds-rest-start : goal.slice_bounds-rest-start
+slice_bounds-rest-start c = omega (arith, inside (goal.at.slice_bounds-rest-start c).In_ok-found)
 
-pub loop-at-preserved : goal.loop-at-preserved
-loop-at-preserved c =
-    let known = found (goal.at.loop-at-preserved c).After-line in
-    let here = (goal.at.loop-at-preserved c).In-Line in
-    let is = rw (to_the_end, so_many) at c.noted-first_wrong.ensures in
-    (inside here known, rw is (next c.loop-at.invariant.1 _ _ (line here known)))
-
-pub returns-in-Wrong : goal.returns-in-Wrong
-returns-in-Wrong c = not_of_form c.loop-at.invariant.1 c.loop-at-test.true (found (goal.at.returns-in-Wrong c).After-line ∙ c.in-Wrong.is)
+pub loop-rest-preserved : goal.loop-rest-preserved
+loop-rest-preserved c =
+    let is = rw so_many at c.noted-first_wrong.ensures in
+    rw (to_the_end, is) (next c.loop-rest.invariant _ _ (line (goal.at.loop-rest-preserved c).In_ok-found))
 
 pub returns : goal.returns
-returns c = all_passed c.loop-at.invariant.1 c.loop-at-test.false
+returns c = rw c.unwrap_or.ensures (all_passed c.loop-rest.invariant (eqb-true _ 0 (sym c.loop-rest-test.ensures)))

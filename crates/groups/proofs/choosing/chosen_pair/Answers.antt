@@ -1,9 +1,8 @@
 -- `groups::choosing::chosen_pair` meets its contract: a rule before the pair ends the word, or the first of the pair that holds is obeyed.
 use Prim.Native.Nat.{◌+◌, ◌-◌}
-use borrow.Author.Tests.{lt-ltb, le-ltb}
 use native.Mathlib.Omega.{arith}
 use mathlib.Core.Path.{◌≡◌, sym, ap, ◌∙◌}
-use mathlib.Core.Bool.{false, Bool, cond}
+use mathlib.Core.Bool.{Bool, false, cond}
 use mathlib.Core.List.{List}
 use mathlib.Core.Option.{none, some}
 use Rattle.paper.specs.Groups.{Rule, obeyed}
@@ -17,16 +16,23 @@ use Rattle.groups.proofs.Found.{earlier_found, first_of_pair, second_of_pair}
 use Rattle.groups.proofs.choosing.chosen_pair.Goals as goal
 use Rattle.groups.proofs.choosing.chosen_pair.Goals.{After-allowed, After-allowed-2}
 
--- no rule before the pair ends the word
+-- two rows or more stand in the table, and no rule before the pair ends the word
 module _ (c : After-allowed) where
   none_earlier : NoneFits (rule_at c.args.rules.now) 0 (c.args.to - 2) c.args.word.now
-  none_earlier k low high =
-      c.fitting-rule.ensures.none_before k low (omega (arith, c.if-rule-pair.false))
+  none_earlier = (rw c.in_default.is at c.fitting.ensures) (omega arith)
 
   holds_first : {b : Bool} → Noted c.args.word.now c.args.states.now → c.allowed.result ≡ b
       → applies c.args.word.now (rule_at c.args.rules.now (c.args.to - 2)) ≡ b
   holds_first noted is =
       sym (asks_noted c.args.rules.now _ c.args.word.now c.args.states.now noted) ∙ sym c.allowed.ensures ∙ is
+
+pub returns-in-Some : goal.returns-in-Some
+returns-in-Some c group noted paired =
+    earlier_found _ group c.args.to _ paired c.in-Some.row (rw c.in-Some.is at c.fitting.ensures)
+
+pub returns-then-allowed : goal.returns-then-allowed
+returns-then-allowed c group noted paired = let a = (goal.at.returns-then-allowed c).After-allowed in
+    first_of_pair _ group c.args.to _ paired (none_earlier a) (holds_first a noted c.if-allowed.true)
 
 -- the first of the pair does not hold
 module _
@@ -42,27 +48,12 @@ module _
       (sym is ∙ c.allowed-2.ensures ∙ asks_noted c.args.rules.now _ c.args.word.now c.args.states.now noted)
       ∙ second_of_pair _ group c.args.to _ paired known_none_earlier (known_first_fails noted)
 
-pub returns-then-rule-pair : goal.returns-then-rule-pair
-returns-then-rule-pair c = let found = c.fitting-rule in record {
-  upper_bound = omega (arith, c.if-rule-pair.true);
-  chosen_paired = λ group noted paired. rw (lt-ltb found.result c.args.to (omega (arith, c.if-rule-pair.true)))
-      (earlier_found _ group c.args.to _ paired _ found.ensures c.if-rule-pair.true);
-}
-
-pub returns-then-allowed : goal.returns-then-allowed
-returns-then-allowed c = let a = (goal.at.returns-then-allowed c).After-allowed in
-    let to = c.args.to in record {
-      upper_bound = omega arith;
-      chosen_paired = λ group noted paired. rw (lt-ltb (to - 2) to (omega (arith, c.requires.1)))
-          (first_of_pair _ group to _ paired (none_earlier a) (holds_first a noted c.if-allowed.true));
-    }
-
 pub returns-then-allowed-2 : goal.returns-then-allowed-2
-returns-then-allowed-2 c = let to = c.args.to in record {
-  upper_bound = omega (arith, c.requires.1);
-  chosen_paired = λ group noted paired. rw (lt-ltb (to - 2 + 1) to (omega (arith, c.requires.1)))
-      (second (goal.at.returns-then-allowed-2 c).After-allowed-2 (none_earlier (goal.at.returns-then-allowed-2 c).After-allowed) (λ noted. holds_first (goal.at.returns-then-allowed-2 c).After-allowed noted c.if-allowed.false) c.if-allowed-2.true group noted paired);
-}
+returns-then-allowed-2 c group noted paired = let at = goal.at.returns-then-allowed-2 c in
+    second at.After-allowed-2 (none_earlier at.After-allowed) (λ n. holds_first at.After-allowed n c.if-allowed.false)
+    c.if-allowed-2.true group noted paired
 
-pub returns : goal.returns
-returns c = let to = c.args.to in record { upper_bound = omega arith; chosen_paired = λ group noted paired. rw (le-ltb to to (omega arith)) (second (goal.at.returns c).After-allowed-2 (none_earlier (goal.at.returns c).After-allowed) (λ noted. holds_first (goal.at.returns c).After-allowed noted c.if-allowed.false) c.if-allowed-2.false group noted paired) }
+pub returns-else-allowed-2 : goal.returns-else-allowed-2
+returns-else-allowed-2 c group noted paired = let at = goal.at.returns-else-allowed-2 c in
+    second at.After-allowed-2 (none_earlier at.After-allowed) (λ n. holds_first at.After-allowed n c.if-allowed.false)
+    c.if-allowed-2.false group noted paired

@@ -1,7 +1,7 @@
 use Prim.Native.Nat.{ℕ, ◌+◌, ◌<◌}
 use native.Mathlib.Omega.{arith}
 use native.Mathlib.Decide.{dec_lt}
-use mathlib.Core.Path.{◌≡◌, sym, ap, ◌∙◌}
+use mathlib.Core.Path.{◌≡◌, refl, sym, ap, ◌∙◌}
 use mathlib.Core.Bool.{false}
 use mathlib.Core.List.{List}
 use Rattle.paper.specs.Groups.{Rule, ends_with}
@@ -17,35 +17,18 @@ none_next word at from rule misses here k low high = go (dec_lt k rule)
     go (yes earlier) = misses k low earlier
     go (no last) = ap (λ (j : ℕ). ends_with word (at j).ending) (omega arith) ∙ here
 
-pub loop-rule-init : goal.loop-rule-init
-loop-rule-init c = λ k low high. absurd (omega arith)
-
-pub fits-requires : goal.fits-requires
-fits-requires c = omega (arith, c.requires)
-
 pub returns-then-fits : goal.returns-then-fits
-returns-then-fits c = let at = c.loop-rule in
+returns-then-fits c stands = let at = c.loop-rule in
     record {
+      is_of = refl;
       within = omega arith;
       none_before = at.invariant;
-      ends = λ inside. sym c.fits.ensures ∙ c.if-fits.true;
+      ends = sym c.fits.ensures ∙ c.if-fits.true;
     }
-
-pub overflow_add-rule : goal.overflow_add-rule
-overflow_add-rule c = omega arith
-
-pub loop-rule-smaller : goal.loop-rule-smaller
-loop-rule-smaller c = omega arith
 
 pub loop-rule-preserved : goal.loop-rule-preserved
 loop-rule-preserved c = let at = c.loop-rule in
-    none_next c.args.word.now (rule_at c.args.rules.now) c.args.from at.rule at.invariant
-    (sym c.fits.ensures ∙ c.if-fits.false)
+    none_next c.args.word.now (rule_at c.args.rules.now) c.args.from at.rule at.invariant (sym c.fits.ensures ∙ c.if-fits.false)
 
 pub returns : goal.returns
-returns c = let inv = c.loop-rule.invariant in
-    record {
-      within = omega arith;
-      none_before = λ k low high. inv k low (omega arith);
-      ends = λ inside. absurd (omega arith);
-    }
+returns c stands k low high = c.loop-rule.invariant k low (omega arith)

@@ -1,89 +1,85 @@
-use Prim.Native.Nat.{◌+◌, ◌*◌, ◌-◌}
-use mathlib.Core.Path.{refl}
+use Prim.Native.Nat.{ℕ, ◌-◌}
+use mathlib.Core.Path.{◌≡◌, refl, sym, ap, ◌∙◌}
 use native.Mathlib.Omega.{arith}
-use Rattle.paths.specs.Children.{nodes_in}
+use lib.ListN.{length}
+use Rattle.std.specs.Slice.Iter.{iter_rest}
+use Rattle.std.specs.Iterator.Adapters.{rev_source}
+use Rattle.paths.specs.Children.{named, nodes_in, child as child_of}
+use Rattle.paths.specs.ChildLaws.{named_none, named_some}
+use Rattle.paths.specs.LettersLeft.{Last, all_left, one_passed, before_it, letter_step}
 use Rattle.walks.specs.WalkSteps.{LetterStep, reached_root, reached_on, reached_end}
-use Rattle.judging.specs.FollowLaws.{At, at_node, child_among, leads-nowhere, leads_here}
+use Rattle.judging.specs.FollowLaws.{At, at_node, child_among, leads-nowhere}
 use Rattle.judging.proofs.endings.follow.Goals as goal
-use Rattle.judging.proofs.endings.follow.Goals.{After-among-at, In-loop-left}
+use Rattle.judging.proofs.endings.follow.Goals.{After-among, In-Some}
 
 -- the node at hand is inside the table, and so are its children
-inside : (c : In-loop-left) → At c.args.table.now c.loop-left.at 1552
-inside c = at_node c.requires _ c.loop-left.at c.loop-left.invariant.0
+inside : (c : In-Some) → At c.args.table.now c.loop-letter.at 1552
+inside c = at_node c.requires _ c.loop-letter.at c.loop-letter.invariant.0
+
+-- the letter that the iterator gave
+last : (c : After-among)
+    → Last (iter_rest (rev_source c.loop-letter.letter-iterator)) (iter_rest (rev_source c.next.new.self)) c.in-Some.letter.now
+last c = record { is = c.in-Some.ensures.steps }
+
+-- what was found among the children is the child of that letter
+among_child : (c : After-among) → c.among.result ≡ named (child_of c.args.table.now c.loop-letter.at c.from-in-loop-letter.result)
+among_child c = child_among _ _ _ _ _ c.from-first.ensures (let count = c.from.ensures in omega arith) c.among.ensures
 
 -- one letter further
-step_of : (c : After-among-at)
-    → (let a = c.args in
-    let turn = c.loop-left in
-    LetterStep (nodes_in a.table.now) a.ending.now turn.at turn.left c.wide.result c.among-at.result)
-step_of c =
-    record {
-      more = c.loop-left-test.true;
-      within = c.loop-left.invariant.1;
-      last = c.wide.ensures.value;
-      stepped = child_among _ _ _ _ _ _ refl refl c.among-at.ensures;
-    }
+step_of : (c : After-among) (next : ℕ) → next ≡ child_of c.args.table.now c.loop-letter.at c.from-in-loop-letter.result
+    → LetterStep (nodes_in c.args.table.now) c.args.ending.now c.loop-letter.at
+    (length (iter_rest (rev_source c.loop-letter.letter-iterator))) c.from-in-loop-letter.result next
+step_of c next stepped = letter_step c.loop-letter.invariant.1 (last c) c.from-in-loop-letter.ensures stepped
 
-pub loop-left-init : goal.loop-left-init
-loop-left-init c = let a = c.args in
-    (reached_root (nodes_in a.table.now) a.root a.ending.now, omega arith)
+pub loop-letter-init : goal.loop-letter-init
+loop-letter-init c = let a = c.args in
+    let same : c.into_iter-letter-iterator.result.iter ≡ c.iter.result
+    = ap rev_source c.into_iter-letter-iterator.ensures.into_iter_gives ∙ c.rev-letter-items.ensures.source in
+    let all : iter_rest (rev_source c.into_iter-letter-iterator.result) ≡ a.ending.now = ap iter_rest same ∙ c.iter.ensures.rest in
+    (rw all (reached_root (nodes_in a.table.now) a.root a.ending.now), rw all (all_left a.ending.now))
 
-pub overflow_sub-left : goal.overflow_sub-left
-overflow_sub-left c = omega arith
+pub overflow_mul-at : goal.overflow_mul-at
+overflow_mul-at c = omega (arith, (inside (goal.at.overflow_mul-at c).In-Some).low)
 
-pub overflow_mul-first : goal.overflow_mul-first
-overflow_mul-first c = omega (arith, (inside (goal.at.overflow_mul-first c).In-loop-left).low)
-
-pub overflow_add-first : goal.overflow_add-first
-overflow_add-first c = omega (arith, (inside (goal.at.overflow_add-first c).In-loop-left).low)
+pub overflow_add-at : goal.overflow_add-at
+overflow_add-at c = omega (arith, (inside (goal.at.overflow_add-at c).In-Some).low)
 
 pub offset_bounds-table-at : goal.offset_bounds-table-at
-offset_bounds-table-at c = omega (arith, (inside (goal.at.offset_bounds-table-at c).In-loop-left).low)
+offset_bounds-table-at c = omega (arith, (inside (goal.at.offset_bounds-table-at c).In-Some).low)
 
 pub bounds-table-at : goal.bounds-table-at
-bounds-table-at c = omega (arith, (inside (goal.at.bounds-table-at c).In-loop-left).here)
+bounds-table-at c = omega (arith, (inside (goal.at.bounds-table-at c).In-Some).here)
 
-pub overflow_cast-first : goal.overflow_cast-first
-overflow_cast-first c = omega (arith, c.shared_slice_known-in-loop-left-1.given (4 * c.loop-left.at + 1))
+pub overflow_mul-at-in-loop-letter : goal.overflow_mul-at-in-loop-letter
+overflow_mul-at-in-loop-letter c = omega (arith, (inside (goal.at.overflow_mul-at-in-loop-letter c).In-Some).low)
 
-pub overflow_mul-end : goal.overflow_mul-end
-overflow_mul-end c = omega (arith, (inside (goal.at.overflow_mul-end c).In-loop-left).low)
+pub overflow_add-at-in-loop-letter : goal.overflow_add-at-in-loop-letter
+overflow_add-at-in-loop-letter c = omega (arith, (inside (goal.at.overflow_add-at-in-loop-letter c).In-Some).low)
 
-pub overflow_add-end : goal.overflow_add-end
-overflow_add-end c = omega (arith, (inside (goal.at.overflow_add-end c).In-loop-left).low)
+pub offset_bounds-table-at-in-loop-letter : goal.offset_bounds-table-at-in-loop-letter
+offset_bounds-table-at-in-loop-letter c = omega (arith, (inside (goal.at.offset_bounds-table-at-in-loop-letter c).In-Some).low)
 
-pub offset_bounds-table-at-in-loop-left : goal.offset_bounds-table-at-in-loop-left
-offset_bounds-table-at-in-loop-left c = omega (arith, (inside (goal.at.offset_bounds-table-at-in-loop-left c).In-loop-left).low)
+pub bounds-table-at-in-loop-letter : goal.bounds-table-at-in-loop-letter
+bounds-table-at-in-loop-letter c = omega (arith, (inside (goal.at.bounds-table-at-in-loop-letter c).In-Some).here)
 
-pub bounds-table-at-in-loop-left : goal.bounds-table-at-in-loop-left
-bounds-table-at-in-loop-left c = omega (arith, (inside (goal.at.bounds-table-at-in-loop-left c).In-loop-left).here)
+pub among-requires : goal.among-requires
+among-requires c = let node = inside (goal.at.among-requires c).In-Some in
+    let first = c.from-first.ensures in
+    let count = c.from.ensures in (
+      omega arith,
+      (omega (arith, node.children_in), (omega (arith, node.few), λ more. omega (arith, node.no_root (omega arith)))),
+    )
 
-pub overflow_cast-end : goal.overflow_cast-end
-overflow_cast-end c = omega (arith, c.shared_slice_known-in-loop-left-2-1.given (4 * c.loop-left.at + 2))
+pub returns-in_err-at : goal.returns-in_err-at
+returns-in_err-at c = let at = (goal.at.returns-in_err-at c).After-among in
+    let none = named_none (among_child at) c.in_err-at.was in
+    c.from_residual.ensures ∙ leads-nowhere _ _ _ _ (reached_end (step_of at 0 (sym none)) c.args.root c.loop-letter.invariant.0 refl)
 
-pub overflow_add-end-in-loop-left : goal.overflow_add-end-in-loop-left
-overflow_add-end-in-loop-left c = omega (arith, (inside (goal.at.overflow_add-end-in-loop-left c).In-loop-left).few)
-
-pub bounds-ending-left : goal.bounds-ending-left
-bounds-ending-left c = omega (arith, c.loop-left.invariant.1, c.loop-left-test.true)
-
-pub among-at-requires : goal.among-at-requires
-among-at-requires c = let node = inside (goal.at.among-at-requires c).In-loop-left in
-    (omega arith, (node.children_in, node.few))
-
-pub returns-then-at-eq0 : goal.returns-then-at-eq0
-returns-then-at-eq0 c = let turn = c.loop-left in
-    leads-nowhere _ _ _ (turn.left - 1) (reached_end (step_of (goal.at.returns-then-at-eq0 c).After-among-at) _ turn.invariant.0 c.if-at-eq0.true)
-
-pub loop-left-smaller : goal.loop-left-smaller
-loop-left-smaller c = omega arith
-
-pub loop-left-preserved : goal.loop-left-preserved
-loop-left-preserved c = let turn = c.loop-left in
-    (reached_on (step_of (goal.at.loop-left-preserved c).After-among-at) _ turn.invariant.0 c.if-at-eq0.false, omega arith)
-
-pub overflow_add-result : goal.overflow_add-result
-overflow_add-result c = omega (arith, (at_node c.requires _ c.loop-left.at c.loop-left.invariant.0).low)
-
-pub returns : goal.returns
-returns c = leads_here _ _ _ c.loop-left.at c.loop-left.left c.loop-left-test.false c.loop-left.invariant.0
+pub loop-letter-preserved : goal.loop-letter-preserved
+loop-letter-preserved c = let now = c.loop-letter in
+    let at = (goal.at.loop-letter-preserved c).After-among in
+    let some : (c.in_ok-at.at ≡ child_of c.args.table.now now.at c.from-in-loop-letter.result) × (c.in_ok-at.at ≡ 0 → ⊥)
+    = named_some (among_child at) c.in_ok-at.was in
+    let fewer : length (iter_rest (rev_source now.letter-iterator)) - 1 ≡ length (iter_rest (rev_source c.next.new.self))
+    = omega (arith, before_it (last at)) in
+    (rw (← fewer) (reached_on (step_of at _ some.0) c.args.root now.invariant.0 some.1), one_passed now.invariant.1 (last at))

@@ -1,10 +1,6 @@
 -- `judging::endings::held_as_noted` meets its contract. The loop's invariant: so it is of the nodes before this one.
-use Prim.Native.Nat.{◌≤◌, ◌-◌}
 use Rattle.judging.specs.Notes.{Held}
 use Rattle.judging.proofs.endings.held_as_noted.Given as goal
 
 abbrev pub invariant-loop-i : goal.invariant-loop-i
-invariant-loop-i l = (l.i ≤ l.nodes) × Held l.table l.roots l.i l.notes
-
-abbrev pub decreases-loop-i : goal.decreases-loop-i
-decreases-loop-i l = l.nodes - l.i
+invariant-loop-i l = Held l.table l.roots l.i l.notes

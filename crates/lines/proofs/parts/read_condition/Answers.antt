@@ -1,39 +1,25 @@
-use mathlib.Core.Path.{◌≡◌, refl, sym, ◌∙◌}
+use mathlib.Core.Path.{◌≡◌, sym, ◌∙◌}
 use native.Mathlib.Omega.{arith}
-use Rattle.lines.specs.Reading.{spelled_in}
-use Rattle.lines.specs.PartLaws.{spelled_here, spelled_later}
+use Rattle.lines.specs.Reading.{starts_with, spelled_in}
+use Rattle.lines.specs.PartLaws.{asked, spelled_here, spelled_later}
 use Rattle.lines.proofs.parts.read_condition.Goals as goal
+use Rattle.lines.proofs.parts.read_condition.Goals.{After-starts_with}
 
-pub loop-below-init : goal.loop-below-init
-loop-below-init c = (omega arith, refl)
+-- what was asked of the bytes
+answer : (c : After-starts_with) → starts_with c.spelling-spelled.result.now c.args.rest.now ≡ c.starts_with.result
+answer c = asked c.spelling-spelled.result.now c.args.rest.now _ c.starts_with.ensures.value
 
-pub overflow_sub-below : goal.overflow_sub-below
-overflow_sub-below c = omega arith
+pub returns-then-starts_with : goal.returns-then-starts_with
+returns-then-starts_with c = let here = answer (goal.at.returns-then-starts_with c).After-starts_with ∙ c.if-starts_with.true in
+    let spelling = c.spelling-spelled.ensures in
+    rw spelling (sym (c.loop-number.invariant ∙ spelled_here c.args.rest.now _ c.loop-number-test.true (rw spelling at here)))
 
-pub taken_spelled-length-requires : goal.taken_spelled-length-requires
-taken_spelled-length-requires c = omega arith
-
-pub overflow_cast-result : goal.overflow_cast-result
-overflow_cast-result c = omega arith
-
-pub returns-then-length-gt0 : goal.returns-then-length-gt0
-returns-then-length-gt0 c = let at = c.loop-below in
-    let rest = c.args.rest.now in
-    let length = c.taken_spelled-length.ensures in
-    let some = rw length at c.if-length-gt0.true in
-    sym (at.invariant.1 ∙ rw length (spelled_here rest at.below (omega arith) some))
-
-pub loop-below-smaller : goal.loop-below-smaller
-loop-below-smaller c = omega arith
-
-pub loop-below-preserved : goal.loop-below-preserved
-loop-below-preserved c = let at = c.loop-below in
-    let rest = c.args.rest.now in
-    let none = rw c.taken_spelled-length.ensures at c.if-length-gt0.false in
-    (omega arith, at.invariant.1 ∙ spelled_later rest at.below (omega arith) none)
+pub loop-number-preserved : goal.loop-number-preserved
+loop-number-preserved c = let here = answer (goal.at.loop-number-preserved c).After-starts_with ∙ c.if-starts_with.false in
+    let spelling = c.spelling-spelled.ensures in
+    c.loop-number.invariant ∙ spelled_later c.args.rest.now _ c.loop-number-test.true (rw spelling at here)
 
 pub returns : goal.returns
 unfolding spelled_in
-returns c = let at = c.loop-below in
-    let none : at.below ≡ 0 = omega arith in
-    sym (at.invariant.1 ∙ rw none refl)
+returns c = let over : c.loop-number.number ≡ 0 = omega arith in
+    sym (c.loop-number.invariant ∙ rw over)

@@ -1,67 +1,68 @@
 -- `records::framing::frame_at` meets its contract: at each return the tests that led there say whether the record is cut.
-use Prim.Native.Nat.{ℕ, ◌+◌, ◌*◌, ◌-◌, ◌≤◌, ◌<◌}
-use mathlib.Core.Path.{◌≡◌, ◌∙◌}
-use mathlib.Core.List.{List}
-use native.Mathlib.Nat.{add-zero}
-use native.Mathlib.Omega.{arith}
+use Rattle.std.proofs.Common.{◌≡◌, ℕ, ◌+◌, ◌*◌, ◌-◌, ◌≤◌, ◌<◌, List, get_or, length, drop, ltb}
+use Rattle.std.proofs.Common.{Some, None, arith, ◌∙◌, length-drop}
 use borrow.Author.Tests.{lt-ltb, le-ltb}
-use lib.ListN.{length, get_or, drop, length-drop}
-use lib.Seq.{get_or-drop}
-use Rattle.records.specs.declared.framing.Frame.TheVariants.{Whole, Cut}
+use lib.Seq.{take_all}
+use Rattle.paper.specs.TestLaws.{or_right}
 use Rattle.records.specs.Framing.{number, body_length, kind, record_length, cut, body_place, next_place, frame_at}
 use Rattle.records.proofs.framing.frame_at.Goals as goal
-use Rattle.records.proofs.framing.frame_at.Goals.{After-pair-size}
+use Rattle.records.proofs.framing.frame_at.Goals.{In_ok-rest}
+
+-- the bytes that remain at the place
+rest-is : (c : In_ok-rest) → c.in_ok-rest.rest.now ≡ drop c.args.at c.args.bytes.now
+rest-is c =
+    let bytes = c.args.bytes.now in
+    let at = c.args.at in
+    c.in_ok-rest.ensures.lookup.0.2 ∙ take_all (length bytes - at) (drop at bytes) (omega (arith, length-drop at bytes))
 
 module _ (bytes : List ℕ) (at : ℕ) where
-  abbrev rest : List ℕ
-  rest = drop at bytes
-
-  no_head : length bytes < at + 4 → Cut ≡ frame_at bytes at
+  no_head : length (drop at bytes) < 4 → None ≡ frame_at bytes at
   unfolding frame_at cut
-  no_head short = simp (lt-ltb (length rest) 4 (omega (arith, length-drop at bytes)))
+  no_head short = simp (lt-ltb (length (drop at bytes)) 4 short)
 
-  kind_is : (k : ℕ) → k ≡ get_or bytes (at + 2) 0 + 256 * get_or bytes (at + 3) 0 → k ≡ kind rest
-  unfolding kind number
-  kind_is k is = is ∙ rw (get_or-drop at bytes 2 0, get_or-drop at bytes 3 0)
+  module _ (rest : List ℕ) (is : rest ≡ drop at bytes) {size : ℕ} (size_is : size ≡ get_or rest 0 0 + 256 * get_or rest 1 0) where
+    no_body : length rest - 4 < size → None ≡ frame_at bytes at
+    unfolding frame_at cut body_length number
+    no_body short = rw (← is, ← size_is, or_right (ltb (length rest) 4) (ltb (length rest - 4) size) (lt-ltb (length rest - 4) size short))
 
-  module _ (size : ℕ) (is : size ≡ get_or bytes at 0 + 256 * get_or bytes (at + 1) 0) (long : at + 4 ≤ length bytes) where
-    size_is : size ≡ body_length rest
-    unfolding body_length number
-    size_is = is ∙ rw (get_or-drop at bytes 0 0, get_or-drop at bytes 1 0, add-zero at)
+    whole : {k : ℕ} → k ≡ get_or rest 2 0 + 256 * get_or rest 3 0 → 4 ≤ length rest → size ≤ length rest - 4
+        → Some (record { kind = k; body = at + 4; next = at + 4 + size }) ≡ frame_at bytes at
+    unfolding frame_at cut body_length kind number body_place next_place record_length
+    whole {k} kind_is long fits =
+        let next : at + 4 + size ≡ at + (4 + size) = omega arith in
+        rw (← is, ← size_is, ← kind_is, next, le-ltb (length rest) 4 long, le-ltb (length rest - 4) size fits)
 
-    no_body : length bytes - (at + 4) < size → Cut ≡ frame_at bytes at
-    unfolding frame_at cut
-    no_body short =
-        let remain = length-drop at bytes in
-        let same = size_is in
-        simp (le-ltb (length rest) 4 (omega arith), lt-ltb (length rest - 4) (body_length rest) (omega arith))
+pub returns-in_err-rest : goal.returns-in_err-rest
+returns-in_err-rest c =
+    let h = c.in_err-rest.ensures.lookup.0 in
+    let left = length-drop c.args.at c.args.bytes.now in
+    record {
+      frame = c.from_residual.ensures ∙ no_head c.args.bytes.now c.args.at (omega arith);
+      inside = rw c.from_residual.ensures tt;
+    }
 
-    not_cut : size ≤ length bytes - (at + 4) → (k : ℕ) → k ≡ get_or bytes (at + 2) 0 + 256 * get_or bytes (at + 3) 0
-        → Whole k (at + 4) (at + 4 + size) ≡ frame_at bytes at
-    unfolding frame_at cut body_place next_place record_length
-    not_cut fits k is_read =
-        let remain = length-drop at bytes in
-        let same = size_is in
-        let next : at + 4 + size ≡ at + (4 + body_length rest) = omega arith in
-        rw (next, kind_is k is_read)
-        (simp (le-ltb (length rest) 4 (omega arith), le-ltb (length rest - 4) (body_length rest) (omega arith)))
+pub returns-in_default : goal.returns-in_default
+returns-in_default c =
+    record {
+      frame = no_head c.args.bytes.now c.args.at (rw (rest-is (goal.at.returns-in_default c).In_ok-rest) at c.in_default.len_below);
+      inside = tt;
+    }
 
--- the head is there, once the body's length is read
-long : (c : After-pair-size)
-    → (let args = c.args in args.at + 4 ≤ length args.bytes.now)
-long c =
-    let known = c.if-len-at-lt4.false in
-    let also = c.if-len-at.false in
-    omega arith
-
-pub returns-then-len-at : goal.returns-then-len-at
-returns-then-len-at c = let known = c.if-len-at.true in no_head _ _ (omega arith)
-
-pub returns-then-len-at-lt4 : goal.returns-then-len-at-lt4
-returns-then-len-at-lt4 c = let known = c.if-len-at-lt4.true in let also = c.if-len-at.false in no_head _ _ (omega arith)
-
-pub returns-then-len-body : goal.returns-then-len-body
-returns-then-len-body c = no_body _ _ _ c.pair-size.ensures.value (long (goal.at.returns-then-len-body c).After-pair-size) c.if-len-body.true
+pub returns-then-rest-size : goal.returns-then-rest-size
+returns-then-rest-size c =
+    record {
+      frame =
+          no_body c.args.bytes.now c.args.at c.in_ok-rest.rest.now (rest-is (goal.at.returns-then-rest-size c).In_ok-rest)
+          c.pair-size.ensures.value c.if-rest-size.true;
+      inside = tt;
+    }
 
 pub returns : goal.returns
-returns c = not_cut _ _ _ c.pair-size.ensures.value (long (goal.at.returns c).After-pair-size) c.if-len-body.false _ c.pair-kind.ensures.value
+returns c =
+    let left = c.in_ok-rest.ensures.lookup.0.3 in
+    record {
+      frame =
+          whole c.args.bytes.now c.args.at c.in_ok-rest.rest.now (rest-is (goal.at.returns c).In_ok-rest) c.pair-size.ensures.value
+          c.pair-kind.ensures.value c.in-len4-up.len_at_least c.if-rest-size.false;
+      inside = (omega arith, omega arith);
+    }

@@ -1,139 +1,158 @@
 -- `records::rules::rule_in` meets its contract: at each return the tests that led there say which case holds.
-use Prim.Native.Nat.{ℕ, ◌+◌, ◌-◌, ◌≤◌}
-use mathlib.Core.Path.{◌≡◌, sym, ap, ◌∙◌}
-use mathlib.Core.Bool.{Bool, true, false, not, ◌&&◌, ◌||◌}
-use mathlib.Core.List.{List}
-use native.Mathlib.Omega.{arith}
-use borrow.Author.Tests.{lt-ltb, le-ltb, ltb-false}
-use lib.Dec.{eqb, ltb}
-use lib.ListN.{length, take, drop, length-drop}
+use Rattle.std.proofs.Common.{ℕ, ◌+◌, ◌-◌, ◌≤◌, ◌≡◌, true, false, not, ◌&&◌, ◌||◌, eqb, ltb, Option, Some, None}
+use Rattle.std.proofs.Common.{List, length, take, drop, arith, sym, subst, ap, ◌∙◌, length-take, length-drop, drop-drop}
+use Rattle.std.proofs.Math.Bool.{or-false, or-true}
+use borrow.Author.Tests.{ltb-false, le-ltb}
 use lib.Seq.{take_all}
+use Rattle.paper.specs.TestLaws.{by_test, or_cases, neither_left, neither_right}
 use Rattle.paper.specs.Conditions.{for_single, highest}
-use Rattle.paper.specs.TestLaws.{neither_right}
-use Rattle.records.specs.declared.Record.TheVariants.{Rule, Faulty}
-use Rattle.records.specs.Records.{condition, action_number, opens_number, ending_length, ending, replacement, ending_place}
+use Rattle.records.specs.declared.Record.TheVariants.{Rule}
+use Rattle.records.specs.declared.RuleRecord.{RuleRecord}
+use Rattle.records.specs.Records.{ending_length, ending, replacement, ending_place}
 use Rattle.records.specs.Records.{replacement_place, outside, faulty_numbers, faulty_letters, faulty_action, faulty_rule}
-use Rattle.records.specs.RecordAnswers.{rule_record}
+use Rattle.records.specs.RecordAnswers.{numbers_told, rule_told, rule_record}
 use Rattle.records.proofs.rules.rule_in.Goals as goal
-use Rattle.records.proofs.rules.rule_in.Goals.{After-above, After-faulty_action, After-faulty_letters, Else-above, Else-faulty_letters}
+use Rattle.records.proofs.rules.rule_in.Goals.{In_ok-rule, then-above-via-then-above, then-above-via-else-above+then-faulty_letters}
+use Rattle.records.proofs.rules.rule_in.Goals.{then-above-via-else-above+else-faulty_letters+then-faulty_action}
 
--- ## What the code judges is what 01 says of a rule whose body has 4 bytes
-module _ (body : List ℕ) (n : ℕ) where
-  -- S1 and S2 as the code lends them
-  abbrev s1 : List ℕ
-  s1 = take (4 + n - 4) (drop 4 body)
+-- ## What the numbers of a body that is long enough tell
+record Told (place : ℕ) (body : List ℕ) (rule : RuleRecord) : Type 0 where
+  four : 4 ≤ length body
+  within : 4 + ending_length body ≤ length body
+  is : rule ≡ numbers_told place body
 
-  abbrev s2 : List ℕ
-  s2 = take (length body - (4 + n)) (drop (4 + n) body)
+abbrev ToldBy : ℕ → List ℕ → Option RuleRecord → Type 0
+ToldBy place body (Some rule) = Told place body rule
+ToldBy place body None = (ltb (length body) 4 || ltb (length body) (4 + ending_length body)) ≡ true
 
-  abbrev numbers_judged : Bool
-  numbers_judged =
-      ltb highest (condition body) || ltb 1 (action_number body) || ltb 1 (opens_number body) || ltb 12 n || ltb (length body) (4 + n)
+told_by : (place : ℕ) (body : List ℕ) → ToldBy place body (rule_told place body)
+unfolding rule_told
+told_by place body =
+    let first = ltb (length body) 4 in
+    let second = ltb (length body) (4 + ending_length body) in
+    by_test (first || second) (λ short. rw short short)
+    (λ long.
+    rw long
+    (record {
+      four = ltb-false _ _ (neither_left first second long);
+      within = ltb-false _ _ (neither_right first second long);
+      is = λ i. numbers_told place body;
+    }))
 
-  fits : numbers_judged ≡ false → 4 + n ≤ length body
-  fits h =
-      ltb-false (length body) (4 + n)
-      (neither_right (ltb highest (condition body) || ltb 1 (action_number body) || ltb 1 (opens_number body) || ltb 12 n)
-      (ltb (length body) (4 + n)) h)
+told : (place : ℕ) (body : List ℕ) (answer : Option RuleRecord) → rule_told place body ≡ answer → ToldBy place body answer
+told place body answer is = subst (ToldBy place body) is (told_by place body)
 
-  module _ (is : n ≡ ending_length body) where
-    numbers_are : 4 ≤ length body → numbers_judged ≡ faulty_numbers body
-    unfolding faulty_numbers
-    numbers_are long = rw is (simp (le-ltb (length body) 4 long))
+told-of : (c : In_ok-rule) → Told c.args.place c.args.body.now c.in_ok-rule.rule
+told-of c = told c.args.place c.args.body.now (Some c.in_ok-rule.rule) (sym c.read.ensures ∙ c.in_ok-rule.was)
 
-    s1_is : s1 ≡ ending body
-    unfolding ending
-    s1_is = let e : 4 + n - 4 ≡ n = omega arith in rw (e, is)
+-- ## What the code judges is what 01 says of such a body, whose S1 and S2 the code takes apart
+module _ (place : ℕ) (body : List ℕ) {rule : RuleRecord} (is : Told place body rule) where
+  parted : rule.middle - rule.start ≡ ending_length body
+  unfolding ending_place replacement_place
+  parted = rw is.is (omega arith)
 
-    s2_is : s2 ≡ replacement body
-    unfolding replacement
-    s2_is =
-        take_all (length body - (4 + n)) (drop (4 + n) body) (simp length-drop (omega arith))
-        ∙ ap (λ (k : ℕ). drop (4 + k) body) is
+  rest : take (length body - 4) (drop 4 body) ≡ drop 4 body
+  rest = take_all (length body - 4) (drop 4 body) (omega (arith, length-drop 4 body))
+
+  s1_is : take (rule.middle - rule.start) (take (length body - 4) (drop 4 body)) ≡ ending body
+  unfolding ending
+  s1_is = rw (rest, parted)
+
+  s2_is : drop (rule.middle - rule.start) (take (length body - 4) (drop 4 body)) ≡ replacement body
+  unfolding replacement
+  s2_is = rw (rest, parted) (drop-drop (ending_length body) 4 body)
+
+  module _ {s1 s2 : List ℕ} (one : s1 ≡ ending body) (two : s2 ≡ replacement body) where
+    numbers_are : (ltb highest rule.condition || ltb 1 rule.action || ltb 1 rule.opens || ltb 12 (length s1) || ltb rule.next rule.middle)
+        ≡ faulty_numbers body
+    unfolding faulty_numbers ending replacement_place
+    numbers_are =
+        let four = is.four in
+        let within = is.within in
+        let ahead = le-ltb (place + length body) (replacement_place place body) (omega arith) in
+        let size : length (take (ending_length body) (drop 4 body)) ≡ ending_length body = simp (length-take, length-drop) (omega arith) in
+        rw (is.is, one, size)
+        (simp (le-ltb (length body) 4 four, le-ltb (length body) (4 + ending_length body) within, ahead, or-false))
 
     letters_are : (ltb 12 (length s2) || outside s1 || outside s2) ≡ faulty_letters body
     unfolding faulty_letters
-    letters_are = rw (s1_is, s2_is)
+    letters_are = rw (one, two)
 
-    action_is : (eqb (action_number body) 1 && (not (for_single (condition body))
-        || not (eqb (length s1) 0) || not (eqb (length s2) 0))) ≡ faulty_action body
+    action_is : (eqb rule.action 1 && (not (for_single rule.condition) || not (eqb (length s1) 0) || not (eqb (length s2) 0)))
+        ≡ faulty_action body
     unfolding faulty_action
-    action_is = rw (s1_is, s2_is)
+    action_is = rw (is.is, one, two)
 
--- ## The answers
-module _ (place : ℕ) (body : List ℕ) where
-  by_numbers : faulty_numbers body ≡ true → Faulty ≡ rule_record place body
+  record_is : faulty_numbers body ≡ false → faulty_letters body ≡ false → faulty_action body ≡ false
+      → Some (Rule rule) ≡ rule_record place body
   unfolding rule_record faulty_rule
-  by_numbers h = simp h
+  record_is a b c = rw (is.is, a, b, c)
 
-  module _ (g : faulty_numbers body ≡ false) where
-    by_letters : faulty_letters body ≡ true → Faulty ≡ rule_record place body
-    unfolding rule_record faulty_rule
-    by_letters h = simp (g, h)
+module _ (place : ℕ) (body : List ℕ) where
+  too_short : (ltb (length body) 4 || ltb (length body) (4 + ending_length body)) ≡ true → None ≡ rule_record place body
+  unfolding rule_record faulty_rule faulty_numbers
+  too_short short =
+      or_cases (ltb (length body) 4) (ltb (length body) (4 + ending_length body)) short (λ few. simp few) (λ over. simp (over, or-true))
 
-    module _ (h : faulty_letters body ≡ false) where
-      by_action : faulty_action body ≡ true → Faulty ≡ rule_record place body
-      unfolding rule_record faulty_rule
-      by_action k = simp (g, h, k)
+  by_numbers : faulty_numbers body ≡ true → None ≡ rule_record place body
+  unfolding rule_record faulty_rule
+  by_numbers a = simp a
 
-      read : (n : ℕ) → n ≡ ending_length body → faulty_action body ≡ false
-          → Rule (condition body) (action_number body) (opens_number body) (place + 4) (place + (4 + n)) (place + length body)
-          ≡ rule_record place body
-      unfolding rule_record faulty_rule ending_place replacement_place
-      read n is k = rw is (simp (g, h, k))
+  by_letters : faulty_letters body ≡ true → None ≡ rule_record place body
+  unfolding rule_record faulty_rule
+  by_letters b = simp (b, or-true)
 
-numbers : (c : After-above) → c.above.result ≡ faulty_numbers c.args.body.now
-numbers c =
-    let long = c.if-body-lt4.false in
-    c.above.ensures ∙ numbers_are _ _ c.wide-n.ensures.value long
+  by_action : faulty_action body ≡ true → None ≡ rule_record place body
+  unfolding rule_record faulty_rule
+  by_action c = simp (c, or-true)
 
--- where the numbers are not faulty, S1 is within the body
-s1-fits : (c : Else-above) → 4 + c.wide-n.result ≤ length c.args.body.now
-s1-fits c = fits c.args.body.now _ (sym c.above.ensures ∙ c.if-above.false)
+pub returns-in_err-rule : goal.returns-in_err-rule
+returns-in_err-rule c =
+    let args = c.args in
+    c.from_residual.ensures
+    ∙ too_short args.place args.body.now (told args.place args.body.now None (sym c.in_err-rule.ensures))
 
-numbers-sound : (c : Else-above) (known_numbers : c.above.result ≡ faulty_numbers c.args.body.now) → faulty_numbers c.args.body.now ≡ false
-numbers-sound c known_numbers = sym known_numbers ∙ c.if-above.false
+pub slice_bounds-split_at-count : goal.slice_bounds-split_at-count
+slice_bounds-split_at-count c = (told-of (goal.at.slice_bounds-split_at-count c).In_ok-rule).four
 
-letters-test : (c : After-faulty_letters) → c.faulty_letters.result ≡ faulty_letters c.args.body.now
-letters-test c = c.faulty_letters.ensures ∙ letters_are _ _ c.wide-n.ensures.value
+pub slice_bounds-split_at-start : goal.slice_bounds-split_at-start
+slice_bounds-split_at-start c = (told-of (goal.at.slice_bounds-split_at-start c).In_ok-rule).four
 
-letters-sound : (c : Else-faulty_letters) (known_letters-test : c.faulty_letters.result ≡ faulty_letters c.args.body.now) → faulty_letters c.args.body.now ≡ false
-letters-sound c known_letters-test = sym known_letters-test ∙ c.if-faulty_letters.false
+pub overflow_sub-rule : goal.overflow_sub-rule
+unfolding ending_place replacement_place
+overflow_sub-rule c = let is = told-of (goal.at.overflow_sub-rule c).In_ok-rule in rw is.is (omega arith)
 
-action-test : (c : After-faulty_action)
-    → c.faulty_action.result ≡ faulty_action c.args.body.now
-action-test c = c.faulty_action.ensures ∙ action_is _ _ c.wide-n.ensures.value
-
--- ## The goals
-pub returns-then-body-lt4 : goal.returns-then-body-lt4
-unfolding faulty_numbers
-returns-then-body-lt4 c = by_numbers _ _ (simp (lt-ltb _ _ c.if-body-lt4.true))
-
-pub overflow_add-end : goal.overflow_add-end
-overflow_add-end c = omega (arith, c.wide-n.ensures.value, c.shared_slice_known-5-1.given 3)
+pub split_at-requires : goal.split_at-requires
+split_at-requires c =
+    let is = told-of (goal.at.split_at-requires c).In_ok-rule in
+    let body = c.args.body.now in
+    omega (arith, is.within, parted c.args.place body is, ap length (rest c.args.place body is), length-drop 4 body)
 
 pub returns-then-above : goal.returns-then-above
-returns-then-above c = by_numbers _ _ (sym (numbers (goal.at.returns-then-above c).After-above) ∙ c.if-above.true)
-
-pub slice_bounds-s1-end : goal.slice_bounds-s1-end
-slice_bounds-s1-end c = s1-fits (goal.at.slice_bounds-s1-end c).Else-above
-
-pub slice_bounds-s2-count : goal.slice_bounds-s2-count
-slice_bounds-s2-count c = s1-fits (goal.at.slice_bounds-s2-count c).Else-above
-
-pub slice_bounds-s2-start : goal.slice_bounds-s2-start
-slice_bounds-s2-start c = s1-fits (goal.at.slice_bounds-s2-start c).Else-above
-
-pub returns-then-faulty_letters : goal.returns-then-faulty_letters
-returns-then-faulty_letters c = by_letters _ _ (numbers-sound (goal.at.returns-then-faulty_letters c).Else-above (numbers (goal.at.returns-then-faulty_letters c).After-above)) (sym (letters-test (goal.at.returns-then-faulty_letters c).After-faulty_letters) ∙ c.if-faulty_letters.true)
-
-pub returns-then-faulty_action : goal.returns-then-faulty_action
-returns-then-faulty_action c = by_action _ _ (numbers-sound (goal.at.returns-then-faulty_action c).Else-above (numbers (goal.at.returns-then-faulty_action c).After-above)) (letters-sound (goal.at.returns-then-faulty_action c).Else-faulty_letters (letters-test (goal.at.returns-then-faulty_action c).After-faulty_letters))
-    (sym (action-test (goal.at.returns-then-faulty_action c).After-faulty_action) ∙ c.if-faulty_action.true)
-
-pub overflow_add-middle : goal.overflow_add-middle
-overflow_add-middle c = let within = s1-fits (goal.at.overflow_add-middle c).Else-above in omega arith
+returns-then-above c =
+    let args = c.args in
+    let body = args.body.now in
+    let is = told-of (goal.at.returns-then-above c).In_ok-rule in
+    let one = c.split_at.ensures.front ∙ s1_is args.place body is in
+    let two = c.split_at.ensures.back ∙ s2_is args.place body is in
+    let numbers = sym (numbers_are args.place body is one two) in
+    let letters = sym (letters_are args.place body is one two) in
+    let action = sym (action_is args.place body is one two) in
+    elim c.then-above.branch [
+      | then-above-via-then-above w ↦ by_numbers args.place body (numbers ∙ (sym c.above.ensures ∙ w.if-above.true))
+      | then-above-via-else-above+then-faulty_letters w ↦
+          by_letters args.place body (letters ∙ (sym w.faulty_letters.ensures ∙ w.if-faulty_letters.true))
+      | then-above-via-else-above+else-faulty_letters+then-faulty_action w ↦
+          by_action args.place body (action ∙ (sym w.faulty_action.ensures ∙ w.if-faulty_action.true))
+    ]
 
 pub returns : goal.returns
-returns c = read _ _ (numbers-sound (goal.at.returns c).Else-above (numbers (goal.at.returns c).After-above)) (letters-sound (goal.at.returns c).Else-faulty_letters (letters-test (goal.at.returns c).After-faulty_letters)) _ c.wide-n.ensures.value
-    (sym (action-test (goal.at.returns c).After-faulty_action) ∙ c.if-faulty_action.false)
+returns c =
+    let args = c.args in
+    let body = args.body.now in
+    let is = told-of (goal.at.returns c).In_ok-rule in
+    let one = c.split_at.ensures.front ∙ s1_is args.place body is in
+    let two = c.split_at.ensures.back ∙ s2_is args.place body is in
+    record_is args.place body is (sym (numbers_are args.place body is one two) ∙ sym c.if-above.ensures)
+    (sym (letters_are args.place body is one two) ∙ sym c.if-faulty_letters.ensures)
+    (sym (action_is args.place body is one two) ∙ sym c.if-faulty_action.ensures)

@@ -6,5 +6,9 @@ use Rattle.requests.proofs.output.table.Goals as goal
 pub returns : goal.returns
 returns g c =
     let numbers = c.args.numbers.now in
-    let value : take c.spread-size.result c.spread-size.new.space ≡ coded_table (take 16384 numbers) = c.spread-size.ensures.value ∙ ap (λ n. coded_table (take (n / 2) numbers)) c.spread-size.auto.space in
-    subst (λ (bytes : List ℕ). OnOk c.write_all.result (Appends (g.W.Write.contents c.args.to.now) (g.W.Write.contents c.write_all.new.self) bytes)) value c.write_all.ensures.bytes
+    let size = c.spread-size in
+    let value : take size.result size.new.space ≡ coded_table (take 16384 numbers) =
+    size.ensures.value ∙ ap (λ n. coded_table (take (n / 2) numbers)) size.auto.space
+    in
+    subst (λ (bytes : List ℕ). OnOk c.write_all.result
+    (Appends (g.W.Write.contents c.args.to.now) (g.W.Write.contents c.write_all.new.self) bytes)) value c.write_all.ensures.bytes

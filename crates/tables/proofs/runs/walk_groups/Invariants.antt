@@ -7,13 +7,10 @@ use Rattle.paths.specs.Children.{nodes_in}
 use Rattle.tables.specs.WalkingLaws.{Walking}
 use Rattle.tables.proofs.runs.walk_groups.Given as goal
 
-abbrev pub invariant-loop-at : goal.invariant-loop-at
-invariant-loop-at l = (l.at ≤ length l.sheet)
-    × (l.groups ≤ 16)
-    × (l.rules ≤ 128)
-    × (l.size ≤ length l.word)
+abbrev pub invariant-loop-record : goal.invariant-loop-record
+invariant-loop-record l = (l.size ≤ length l.word)
     × (length l.word ≡ length l.initial.word)
-    × Walking (nodes_in l.table) l.sheet l.initial.word l.at l.groups l.rules l.opened (take l.size l.word)
+    × Walking (nodes_in l.table) l.bytes l.initial.word l.at l.groups l.rules l.opened (take l.size l.word)
 
-abbrev pub decreases-loop-at : goal.decreases-loop-at
-decreases-loop-at l = length l.sheet - l.at
+abbrev pub decreases-loop-record : goal.decreases-loop-record
+decreases-loop-record l = length l.bytes - l.at

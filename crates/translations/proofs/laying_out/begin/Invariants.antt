@@ -4,8 +4,8 @@ use lib.ListN.{length}
 use Rattle.translations.specs.RootLaws.{Rooting}
 use Rattle.translations.proofs.laying_out.begin.Given as goal
 
-abbrev pub invariant-loop-at : goal.invariant-loop-at
-invariant-loop-at l = (l.at ≤ length l.sheet) × (l.roots ≤ 16) × (l.rules ≤ 128) × Rooting l.sheet l.table l.at l.roots l.rules
+abbrev pub invariant-loop-record : goal.invariant-loop-record
+invariant-loop-record l = (l.at ≤ length l.bytes) × (l.roots ≤ 16) × (l.rules ≤ 128) × Rooting l.bytes l.table l.at l.roots l.rules
 
-abbrev pub decreases-loop-at : goal.decreases-loop-at
-decreases-loop-at l = length l.sheet - l.at
+abbrev pub decreases-loop-record : goal.decreases-loop-record
+decreases-loop-record l = length l.bytes - l.at

@@ -10,10 +10,10 @@ pub loop-row-init : goal.loop-row-init
 loop-row-init c = (refl, c.begin-next.ensures)
 
 pub finish-next-requires : goal.finish-next-requires
-finish-next-requires c = (c.loop-row-test.true, (c.requires.0, c.loop-row.invariant.1))
+finish-next-requires c = (c.loop-row-test.true, c.loop-row.invariant.1)
 
 pub overflow_add-row : goal.overflow_add-row
-overflow_add-row c = let accepted = c.requires.0 in
+overflow_add-row c = let accepted = c.args.sheet.accepted in
     let more = c.loop-row-test.true in
     omega (arith, midway_small c.loop-row.invariant.1 accepted)
 

@@ -11,5 +11,4 @@ pub returns-then-sheet-start : goal.returns-then-sheet-start
 returns-then-sheet-start c = (letter_beyond _ _ _ c.if-sheet-start.true, omega arith)
 
 pub returns : goal.returns
-returns c = let read = c.wide.ensures in
-    (read.value ∙ letter_here _ _ _ c.if-end-start.false c.if-sheet-start.false, omega (arith, read.upper_bound))
+returns c = (c.from.ensures ∙ letter_here _ _ _ c.if-end-start.false c.if-sheet-start.false, omega arith)

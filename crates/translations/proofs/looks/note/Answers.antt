@@ -23,16 +23,16 @@ returns-then-not-ends_with c = let a = c.args in
 
 pub returns-then-letter-lt97 : goal.returns-then-letter-lt97
 returns-then-letter-lt97 c = let a = c.args in
-    noted_low a.ending.now a.end a.tail.now a.ends.now c.if-ending-long.false (ends_of (goal.at.returns-then-letter-lt97 c).Else-not-ends_with) _ c.wide-letter.ensures.value
+    noted_low a.ending.now a.end a.tail.now a.ends.now c.if-ending-long.false (ends_of (goal.at.returns-then-letter-lt97 c).Else-not-ends_with) _ c.from-letter.ensures
     c.if-letter-lt97.true
 
 pub returns-then-number_at-eq0 : goal.returns-then-number_at-eq0
 returns-then-number_at-eq0 c = let a = c.args in
-    noted_new a.ending.now a.end a.tail.now a.ends.now c.if-ending-long.false (ends_of (goal.at.returns-then-number_at-eq0 c).Else-not-ends_with) _ c.wide-letter.ensures.value
+    noted_new a.ending.now a.end a.tail.now a.ends.now c.if-ending-long.false (ends_of (goal.at.returns-then-number_at-eq0 c).Else-not-ends_with) _ c.from-letter.ensures
     _ refl c.if-letter-lt97.false (sym c.number_at.ensures.0 ∙ c.if-number_at-eq0.true) _
     c.put.ensures
 
 pub returns-else-number_at-eq0 : goal.returns-else-number_at-eq0
 returns-else-number_at-eq0 c = let a = c.args in
-    noted_kept a.ending.now a.end a.tail.now a.ends.now c.if-ending-long.false (ends_of (goal.at.returns-else-number_at-eq0 c).Else-not-ends_with) _ c.wide-letter.ensures.value
+    noted_kept a.ending.now a.end a.tail.now a.ends.now c.if-ending-long.false (ends_of (goal.at.returns-else-number_at-eq0 c).Else-not-ends_with) _ c.from-letter.ensures
     _ refl c.if-letter-lt97.false (λ free. c.if-number_at-eq0.false (c.number_at.ensures.0 ∙ free))

@@ -1,16 +1,14 @@
 -- `translations::rows::put_each` meets its contract. The loop's invariant: the ends that are left lead to what all of them do.
-use Prim.Native.Nat.{◌+◌, ◌-◌, ◌≤◌}
+use Prim.Native.Nat.{◌+◌, ◌≤◌}
 use mathlib.Core.Path.{◌≡◌}
 use lib.ListN.{length, drop}
 use Rattle.translations.specs.Storing.{how_many, put_each}
 use Rattle.translations.proofs.rows.put_each.Given as goal
 
-abbrev pub invariant-loop-k : goal.invariant-loop-k
-invariant-loop-k l = (put_each l.depth l.from l.before (drop l.k l.ends) l.at l.table ≡ put_each l.depth l.from l.before l.ends l.next l.initial.table)
-    × (l.at + how_many (drop l.k l.ends) ≡ l.next + how_many l.ends)
+abbrev pub invariant-loop-end : goal.invariant-loop-end
+invariant-loop-end l = (put_each l.depth l.from l.before (drop l.end-index l.ends) l.at l.table
+    ≡ put_each l.depth l.from l.before l.ends l.next l.initial.table)
+    × (l.at + how_many (drop l.end-index l.ends) ≡ l.next + how_many l.ends)
     × (length l.table ≡ length l.initial.table)
-    × (l.k ≤ length l.ends)
-    × (l.at ≤ l.next + l.k)
-
-abbrev pub decreases-loop-k : goal.decreases-loop-k
-decreases-loop-k l = length l.ends - l.k
+    × (l.end-index ≤ length l.ends)
+    × (l.at ≤ l.next + l.end-index)
