@@ -50,7 +50,7 @@ fn differs(place: &mut [u8], word: &[u8], stem: &[u8]) -> bool
     requires word_value { judged word.now ≡ taken }
     ensures { result ≡ wrong (pair word.now stem.now) }
 {
-    places::put(place, 0, word);
+    place.copy_from_slice(word);
     match words::stem(place) {
         Ok(length) => &place[..length] != stem,
         Err(_) => true,

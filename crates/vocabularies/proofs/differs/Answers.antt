@@ -1,6 +1,5 @@
 -- `vocabularies::differs` meets its contract: the word is stemmed in the place, and what then stands first is held against the stem given.
 use Rattle.std.proofs.Common.{◌∙◌, arith, length-take}
-use Rattle.places.specs.Put.{put_whole}
 use Rattle.vocabularies.specs.StemLaws.{Left, left_by, by_letters, never_refused}
 use Rattle.vocabularies.proofs.differs.Goals as goal
 use Rattle.vocabularies.proofs.differs.Goals.{In-Ok}
@@ -8,8 +7,7 @@ use Rattle.vocabularies.proofs.differs.Goals.{In-Ok}
 -- the place holds the word, and then its stem
 left : (c : In-Ok) → Left c.args.word.now c.in-Ok.length c.stem.new.word
 left c =
-    let word = c.put.ensures ∙ put_whole _ _ c.requires.place_len in
-    left_by _ c.requires.word_value (rw word at c.in-Ok.ensures)
+    left_by _ c.requires.word_value (rw c.copy_from_slice.ensures.after at c.in-Ok.ensures)
 
 pub slice_bounds-ne-end : goal.slice_bounds-ne-end
 slice_bounds-ne-end c =
@@ -23,5 +21,4 @@ returns-in-Ok c = c.ne.ensures ∙ by_letters _ (left (goal.at.returns-in-Ok c).
 
 pub returns-in-Err : goal.returns-in-Err
 returns-in-Err c =
-    let word = c.put.ensures ∙ put_whole _ _ c.requires.place_len in
-    absurd (never_refused _ c.in-Err.field-0 c.requires.word_value (rw word at c.in-Err.ensures))
+    absurd (never_refused _ c.in-Err.field-0 c.requires.word_value (rw c.copy_from_slice.ensures.after at c.in-Err.ensures))
