@@ -1,6 +1,7 @@
 -- What an index tells of a word: which rules cannot end it, so that those whose endings are compared give what the group gives. Over any
 -- rule list and any index that keeps it.
-use Rattle.std.specs.Prelude.{ℕ, zero, suc, ◌+◌, ◌-◌, ◌/◌, ◌%◌, ◌^◌, ◌≤◌, ◌<◌, ◌≡◌, refl, Bool, true, false, not, ◌&&◌, eqb, leb, ltb, length, drop}
+use Rattle.std.specs.Prelude.{ℕ, zero, suc, ◌+◌, ◌-◌, ◌/◌, ◌%◌, ◌^◌, ◌≤◌, ◌<◌, ◌≡◌, refl, Bool, true, false, not, ◌&&◌, eqb, leb, ltb}
+use Rattle.std.specs.Prelude.{length, drop}
 use Rattle.std.proofs.Common.{mod-lt, arith, ap, ◌∙◌, true≢false, length-take}
 use Rattle.std.proofs.Math.Path.{sym}
 use Rattle.std.proofs.lemmas.Bool.{false≢true}
@@ -19,11 +20,11 @@ use Rattle.blocks.specs.Blocks.{in_block, keeps_one, keeps_from, bounded, keeps}
 -- ## The sets of all letters and of none
 
 -- a test of every number below a bound
-below : (ℕ → Bool) → ℕ → Bool
+unfoldable pub below : (ℕ → Bool) → ℕ → Bool
 below test zero = true
 below test (suc n) = test n && below test n
 
-below_at : (test : ℕ → Bool) (n : ℕ) → below test n ≡ true → (k : ℕ) → k < n → test k ≡ true
+pub below_at : (test : ℕ → Bool) (n : ℕ) → below test n ≡ true → (k : ℕ) → k < n → test k ≡ true
 unfolding below
 below_at test zero all k within = absurd (omega arith)
 below_at test (suc n) all k within =

@@ -8,6 +8,8 @@ use Rattle.paper.specs.Shipped.{rule, group_2, group_3, group_4}
 use Rattle.blocks.specs.Blocks.{member, set_of, every_letter, Entry, block_at, compared, widest}
 use Rattle.blocks.specs.Blocks.{in_block, keeps_one, keeps_from, bounded, keeps}
 use Rattle.blocks.specs.BlocksLaws.{compared_few}
+use Rattle.blocks.specs.declared.Index.{Index}
+use Rattle.blocks.specs.declared.Index.TheVariants.{Step2, Step3, Step4}
 
 -- a letter, the rules that have it second last from a number up to another, and their letters last and third last
 unfoldable pub at : Char → ℕ → ℕ → String → String → Entry
@@ -80,6 +82,19 @@ keeps_3 = refl
 pub keeps_4 : keeps group_4 index_4 ≡ true
 unfolding tested group_4 index_4
 keeps_4 = refl
+
+-- ## The code's names of the three
+
+abbrev pub index_of : Index → List Entry
+index_of Step2 = index_2
+index_of Step3 = index_3
+index_of Step4 = index_4
+
+-- the group that the index is of
+abbrev pub group_of : Index → List Rule
+group_of Step2 = group_2
+group_of Step3 = group_3
+group_of Step4 = group_4
 
 -- ## Step 2, as W-203 asks
 

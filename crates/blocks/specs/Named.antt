@@ -1,13 +1,15 @@
 -- A block that the code hands out is what an index names, and what that tells of a word. Over any rule list and any index that keeps it.
-use Rattle.std.specs.Prelude.{ℕ, ◌≤◌, ◌≡◌, refl, Bool, true, false, ◌&&◌, List, [], ◌∷◌, eqb, length}
-use Rattle.std.proofs.Common.{sym, ◌∙◌, true≢false}
-use borrow.Author.Tests.{eqb-true, ne_eqb}
-use Rattle.paper.specs.Letters.{letter_at, among}
+use Rattle.std.specs.Prelude.{ℕ, ◌+◌, ◌-◌, ◌≤◌, ◌≡◌, refl, Bool, true, false, ◌&&◌, List, [], ◌∷◌, eqb, leb, length, slice_index_or}
+use Rattle.std.proofs.Common.{arith, sym, ◌∙◌, true≢false}
+use borrow.Author.Tests.{eqb-true, leb-true, ne_eqb}
+use Rattle.paper.specs.Letters.{letter_at}
+use Rattle.paper.specs.Words.{small}
 use Rattle.paper.specs.TestLaws.{and_both, and_left, and_right, and_parts, or_cases}
 use Rattle.paper.specs.Groups.{Rule}
 use Rattle.paper.specs.FirstFits.{NoneFits, rule_of}
 use Rattle.blocks.specs.Blocks.{member, passes, Entry, block_at, names, keeps}
-use Rattle.blocks.specs.BlocksLaws.{member_none, bounds, left_out, none_before, none_behind}
+use Rattle.blocks.specs.BlocksLaws.{below, below_at, member_none, bounds, left_out, none_before, none_behind}
+use Rattle.blocks.specs.declared.Block.{Block as Declared}
 
 -- ## A block that the index names
 
@@ -50,34 +52,48 @@ module _ (rules : List Rule) (index : List Entry) (kept : keeps rules index ≡ 
       let third : member thirds (letter_at 2 word) ≡ true = rw (same.1.1, is) stands.third in
       true≢false (sym (and_both last third) ∙ fails))
 
--- ## A letter that is not in the index
+-- ## A table of blocks, one for each letter from a to z
 
--- a letter is none of these, as a match leaves it
-abbrev pub NoneOf : ℕ → List ℕ → Type 0
-NoneOf letter [] = Unit {0}
-NoneOf letter (one ∷ others) = NoneOf letter others × (letter ≡ one → ⊥)
+-- it names what the index names
+unfoldable pub tabled : List Entry → List Declared → Bool
+tabled index blocks =
+    below
+    (λ place.
+    let block = slice_index_or blocks place (record { from = 0; to = 0; lasts = 0; thirds = 0 }) in
+    names index (97 + place) block.from block.to block.lasts block.thirds)
+    26
 
-not_among : (letter : ℕ) (others : List ℕ) → NoneOf letter others → among letter others ≡ false
-unfolding among
-not_among letter [] differs = refl
-not_among letter (one ∷ others) differs = rw (ne_eqb letter one differs.1, not_among letter others differs.0)
+pub table_named :
+    (index : List Entry) (blocks : List Declared)
+    → tabled index blocks ≡ true
+    → (letter place : ℕ)
+    → small letter ≡ true
+    → place ≡ letter - 97
+    → let block = slice_index_or blocks place (record { from = 0; to = 0; lasts = 0; thirds = 0 }) in
+    names index letter block.from block.to block.lasts block.thirds ≡ true
+unfolding tabled
+table_named index blocks all letter place is at =
+    let low = leb-true 97 letter (and_left _ (leb letter 122) is) in
+    let high = leb-true letter 122 (and_right (leb 97 letter) _ is) in
+    let same : letter ≡ 97 + place = omega arith in
+    rw same (below_at _ 26 all place (omega arith))
 
--- the index has no other letters than these
-unfoldable pub only_these : List ℕ → List Entry → Bool
-only_these letters [] = true
-only_these letters (entry ∷ index) = among entry.letter letters && only_these letters index
+-- every letter of the index passes a test
+unfoldable pub all_pass : (ℕ → Bool) → List Entry → Bool
+all_pass test [] = true
+all_pass test (entry ∷ index) = test entry.letter && all_pass test index
 
--- it names any rules for it, which no letter passes
+-- so for a letter that fails it the index names any rules, which no letter passes
 pub other_named :
-    (letters : List ℕ) (index : List Entry)
-    → only_these letters index ≡ true
+    (test : ℕ → Bool) (index : List Entry)
+    → all_pass test index ≡ true
     → (letter from to thirds : ℕ)
-    → NoneOf letter letters
+    → test letter ≡ false
     → names index letter from to 0 thirds ≡ true
-unfolding names only_these block_at
-other_named letters [] all letter from to thirds other = refl
-other_named letters (entry ∷ index) all letter from to thirds other =
-    let both = and_parts (among entry.letter letters) (only_these letters index) all in
+unfolding names all_pass block_at
+other_named test [] all letter from to thirds other = refl
+other_named test (entry ∷ index) all letter from to thirds other =
+    let both = and_parts (test entry.letter) (all_pass test index) all in
     let differs : eqb letter entry.letter ≡ false =
-    ne_eqb letter entry.letter (λ same. true≢false (sym both.0 ∙ (rw (← same) (not_among letter letters other)))) in
-    rw differs (other_named letters index both.1 letter from to thirds other)
+    ne_eqb letter entry.letter (λ same. true≢false (sym both.0 ∙ (rw (← same) other))) in
+    rw differs (other_named test index both.1 letter from to thirds other)

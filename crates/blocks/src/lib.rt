@@ -4,7 +4,7 @@
 
 ghost use Rattle.std.specs.Prelude.{◌≡◌, true};
 ghost use Rattle.blocks.specs.Blocks.{member, passes, names};
-ghost use Rattle.blocks.specs.Indexes.{index_2, index_3, index_4};
+ghost use Rattle.blocks.specs.Indexes.{index_of};
 
 // The rules of a group with one letter second last, from a number up to another; and which letters they have last and third
 // last, a bit for each.
@@ -33,231 +33,273 @@ fn has(set: u32, letter: u8) -> bool
     (set >> (letter % 32)) % 2 == 1
 }
 
-// Step 2. For a letter that is not in the index no letter passes. Some such letters have an arm, so that the arms are dense and the match
-// becomes a table.
-pub fn block_2(second: u8) -> Block
-    ensures { names index_2 second result.from result.to result.lasts result.thirds ≡ true }
-{
-    match second {
-        b'a' => Block {
-            from: 0,
-            to: 2,
-            lasts: 0x1000,
-            thirds: 0x4000,
-        },
-        b'c' => Block {
-            from: 2,
-            to: 4,
-            lasts: 0x200,
-            thirds: 0x4000,
-        },
-        b'e' => Block {
-            from: 4,
-            to: 5,
-            lasts: 0x40000,
-            thirds: 0x4000000,
-        },
-        b'i' => Block {
-            from: 0,
-            to: 0,
-            lasts: 0x0,
-            thirds: 0x0,
-        },
-        b'l' => Block {
-            from: 5,
-            to: 10,
-            lasts: 0x200,
-            thirds: 0x181024,
-        },
-        b'o' => Block {
-            from: 10,
-            to: 13,
-            lasts: 0x44000,
-            thirds: 0x100200,
-        },
-        b's' => Block {
-            from: 13,
-            to: 17,
-            lasts: 0x82000,
-            thirds: 0x220,
-        },
-        b't' => Block {
-            from: 17,
-            to: 20,
-            lasts: 0x200,
-            thirds: 0x200,
-        },
-        _ => Block {
-            from: 1,
-            to: 1,
-            lasts: 0,
-            thirds: 1,
-        },
-    }
+// A letter that is not in an index has no rule, and a set that no letter is in.
+const NONE: Block = Block {
+    from: 0,
+    to: 0,
+    lasts: 0,
+    thirds: 0,
+};
+
+// Each index as a table: the block of each letter, a to z.
+const STEP_2: [Block; 26] = [
+    // ational and tional
+    Block {
+        from: 0,
+        to: 2,
+        lasts: 0x1000,
+        thirds: 0x4000,
+    },
+    NONE, // b
+    // enci and anci
+    Block {
+        from: 2,
+        to: 4,
+        lasts: 0x200,
+        thirds: 0x4000,
+    },
+    NONE, // d
+    // izer
+    Block {
+        from: 4,
+        to: 5,
+        lasts: 0x40000,
+        thirds: 0x4000000,
+    },
+    NONE, // f
+    NONE, // g
+    NONE, // h
+    NONE, // i
+    NONE, // j
+    NONE, // k
+    // abli to ousli
+    Block {
+        from: 5,
+        to: 10,
+        lasts: 0x200,
+        thirds: 0x181024,
+    },
+    NONE, // m
+    NONE, // n
+    // ization to ator
+    Block {
+        from: 10,
+        to: 13,
+        lasts: 0x44000,
+        thirds: 0x100200,
+    },
+    NONE, // p
+    NONE, // q
+    NONE, // r
+    // alism to ousness
+    Block {
+        from: 13,
+        to: 17,
+        lasts: 0x82000,
+        thirds: 0x220,
+    },
+    // aliti to biliti
+    Block {
+        from: 17,
+        to: 20,
+        lasts: 0x200,
+        thirds: 0x200,
+    },
+    NONE, // u
+    NONE, // v
+    NONE, // w
+    NONE, // x
+    NONE, // y
+    NONE, // z
+];
+
+const STEP_3: [Block; 26] = [
+    // ical
+    Block {
+        from: 4,
+        to: 5,
+        lasts: 0x1000,
+        thirds: 0x8,
+    },
+    NONE, // b
+    NONE, // c
+    NONE, // d
+    NONE, // e
+    NONE, // f
+    NONE, // g
+    NONE, // h
+    NONE, // i
+    NONE, // j
+    NONE, // k
+    NONE, // l
+    NONE, // m
+    NONE, // n
+    NONE, // o
+    NONE, // p
+    NONE, // q
+    NONE, // r
+    // ness
+    Block {
+        from: 6,
+        to: 7,
+        lasts: 0x80000,
+        thirds: 0x20,
+    },
+    // icate to iciti
+    Block {
+        from: 0,
+        to: 4,
+        lasts: 0x220,
+        thirds: 0x202,
+    },
+    // ful
+    Block {
+        from: 5,
+        to: 6,
+        lasts: 0x1000,
+        thirds: 0x40,
+    },
+    // ative
+    Block {
+        from: 1,
+        to: 2,
+        lasts: 0x20,
+        thirds: 0x200,
+    },
+    NONE, // w
+    NONE, // x
+    NONE, // y
+    // alize
+    Block {
+        from: 2,
+        to: 3,
+        lasts: 0x20,
+        thirds: 0x200,
+    },
+];
+
+const STEP_4: [Block; 26] = [
+    // al
+    Block {
+        from: 0,
+        to: 1,
+        lasts: 0x1000,
+        thirds: 0xffffffff,
+    },
+    NONE, // b
+    // ance and ence
+    Block {
+        from: 1,
+        to: 3,
+        lasts: 0x20,
+        thirds: 0x4000,
+    },
+    NONE, // d
+    // er
+    Block {
+        from: 3,
+        to: 4,
+        lasts: 0x40000,
+        thirds: 0xffffffff,
+    },
+    NONE, // f
+    NONE, // g
+    NONE, // h
+    // ic
+    Block {
+        from: 4,
+        to: 5,
+        lasts: 0x8,
+        thirds: 0xffffffff,
+    },
+    NONE, // j
+    NONE, // k
+    // able and ible
+    Block {
+        from: 5,
+        to: 7,
+        lasts: 0x20,
+        thirds: 0x4,
+    },
+    NONE, // m
+    // ant to ent
+    Block {
+        from: 7,
+        to: 11,
+        lasts: 0x100000,
+        thirds: 0x22,
+    },
+    // ion and ou
+    Block {
+        from: 11,
+        to: 13,
+        lasts: 0x204000,
+        thirds: 0xffffffff,
+    },
+    NONE, // p
+    NONE, // q
+    NONE, // r
+    // ism
+    Block {
+        from: 13,
+        to: 14,
+        lasts: 0x2000,
+        thirds: 0x200,
+    },
+    // ate and iti
+    Block {
+        from: 14,
+        to: 16,
+        lasts: 0x220,
+        thirds: 0x202,
+    },
+    // ous
+    Block {
+        from: 16,
+        to: 17,
+        lasts: 0x80000,
+        thirds: 0x8000,
+    },
+    // ive
+    Block {
+        from: 17,
+        to: 18,
+        lasts: 0x20,
+        thirds: 0x200,
+    },
+    NONE, // w
+    NONE, // x
+    NONE, // y
+    // ize
+    Block {
+        from: 18,
+        to: 19,
+        lasts: 0x20,
+        thirds: 0x200,
+    },
+];
+
+// The groups that have an index.
+#[derive(Clone, Copy)]
+pub enum Index {
+    Step2,
+    Step3,
+    Step4,
 }
 
-// Step 3.
-pub fn block_3(second: u8) -> Block
-    ensures { names index_3 second result.from result.to result.lasts result.thirds ≡ true }
-{
-    match second {
-        b'a' => Block {
-            from: 4,
-            to: 5,
-            lasts: 0x1000,
-            thirds: 0x8,
-        },
-        b'b' => Block {
-            from: 0,
-            to: 0,
-            lasts: 0x0,
-            thirds: 0x0,
-        },
-        b'c' => Block {
-            from: 0,
-            to: 0,
-            lasts: 0x0,
-            thirds: 0x0,
-        },
-        b'd' => Block {
-            from: 0,
-            to: 0,
-            lasts: 0x0,
-            thirds: 0x0,
-        },
-        b'e' => Block {
-            from: 0,
-            to: 0,
-            lasts: 0x0,
-            thirds: 0x0,
-        },
-        b'f' => Block {
-            from: 0,
-            to: 0,
-            lasts: 0x0,
-            thirds: 0x0,
-        },
-        b's' => Block {
-            from: 6,
-            to: 7,
-            lasts: 0x80000,
-            thirds: 0x20,
-        },
-        b't' => Block {
-            from: 0,
-            to: 4,
-            lasts: 0x220,
-            thirds: 0x202,
-        },
-        b'u' => Block {
-            from: 5,
-            to: 6,
-            lasts: 0x1000,
-            thirds: 0x40,
-        },
-        b'v' => Block {
-            from: 1,
-            to: 2,
-            lasts: 0x20,
-            thirds: 0x200,
-        },
-        b'z' => Block {
-            from: 2,
-            to: 3,
-            lasts: 0x20,
-            thirds: 0x200,
-        },
-        _ => Block {
-            from: 1,
-            to: 1,
-            lasts: 0,
-            thirds: 1,
-        },
-    }
-}
-
-// Step 4.
-pub fn block_4(second: u8) -> Block
-    ensures { names index_4 second result.from result.to result.lasts result.thirds ≡ true }
-{
-    match second {
-        b'a' => Block {
-            from: 0,
-            to: 1,
-            lasts: 0x1000,
-            thirds: 0xffffffff,
-        },
-        b'c' => Block {
-            from: 1,
-            to: 3,
-            lasts: 0x20,
-            thirds: 0x4000,
-        },
-        b'e' => Block {
-            from: 3,
-            to: 4,
-            lasts: 0x40000,
-            thirds: 0xffffffff,
-        },
-        b'i' => Block {
-            from: 4,
-            to: 5,
-            lasts: 0x8,
-            thirds: 0xffffffff,
-        },
-        b'l' => Block {
-            from: 5,
-            to: 7,
-            lasts: 0x20,
-            thirds: 0x4,
-        },
-        b'n' => Block {
-            from: 7,
-            to: 11,
-            lasts: 0x100000,
-            thirds: 0x22,
-        },
-        b'o' => Block {
-            from: 11,
-            to: 13,
-            lasts: 0x204000,
-            thirds: 0xffffffff,
-        },
-        b's' => Block {
-            from: 13,
-            to: 14,
-            lasts: 0x2000,
-            thirds: 0x200,
-        },
-        b't' => Block {
-            from: 14,
-            to: 16,
-            lasts: 0x220,
-            thirds: 0x202,
-        },
-        b'u' => Block {
-            from: 16,
-            to: 17,
-            lasts: 0x80000,
-            thirds: 0x8000,
-        },
-        b'v' => Block {
-            from: 17,
-            to: 18,
-            lasts: 0x20,
-            thirds: 0x200,
-        },
-        b'z' => Block {
-            from: 18,
-            to: 19,
-            lasts: 0x20,
-            thirds: 0x200,
-        },
-        _ => Block {
-            from: 1,
-            to: 1,
-            lasts: 0,
-            thirds: 1,
-        },
+impl Index {
+    // The block of a letter.
+    pub fn block(self, second: u8) -> Block
+        ensures { names (index_of self) second result.from result.to result.lasts result.thirds ≡ true }
+    {
+        if !second.is_ascii_lowercase() {
+            return NONE;
+        }
+        let blocks = match self {
+            Index::Step2 => &STEP_2,
+            Index::Step3 => &STEP_3,
+            Index::Step4 => &STEP_4,
+        };
+        blocks[usize::from(second - b'a')]
     }
 }

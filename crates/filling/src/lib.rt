@@ -18,6 +18,7 @@ pub fn fill<R: Read>(from: &mut R, space: &mut [u8]) -> io::Result<usize>
     ensures err { OnErr result (length space.new ≡ length space.old) }
 {
     let mut done = 0;
+    // no range to go over: each read decides where the next one starts
     while done < space.len() {
         let count = from.read(&mut space[done..])?;
         if count == 0 {

@@ -41,8 +41,8 @@ fn rising(table: &[u16], first: usize, end: usize) -> bool
     true
 }
 
-// The number of nodes, if the table's are a forest laid out by levels with so many roots. The nodes are seen once, in their order; with each, the letters of its children. Nothing is read
-// behind the nodes that a table may have, so no single read is checked.
+// The number of nodes, if the table's are a forest laid out by levels with so many roots. The nodes are seen once, in their order; with
+// each, the letters of its children. Nothing is read behind the nodes that a table may have, so no single read is checked.
 pub fn shape_of(table: &[u16], roots: usize) -> Option<usize>
     ensures { ShapedAs table.now roots result }
 {
@@ -55,6 +55,7 @@ pub fn shape_of(table: &[u16], roots: usize) -> Option<usize>
     }
     let mut i = 0;
     let mut next = roots;
+    // no range to go over: the nodes to be seen grow with the children of those that were
     while i < next {
         let first = usize::from(table[4 * i + 1]);
         let count = usize::from(table[4 * i + 2]);

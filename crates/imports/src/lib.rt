@@ -102,6 +102,7 @@ fn pass(text: &[u8], sheet: &mut [u8]) -> Result<usize, FaultyLine>
     let mut groups = 0;
     let mut rules = 0;
     let mut size = 0;
+    // not `while let`: that no line is read is a fault before the end of the text, and none at it
     while at < text.len() {
         let rest = &text[at..];
         let fault = FaultyLine {

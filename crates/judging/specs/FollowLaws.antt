@@ -1,17 +1,14 @@
 -- Following an ending's letters through a forest, whose nodes are all inside the table.
-use Rattle.std.specs.Prelude.{ℕ, suc, ◌+◌, ◌*◌, ◌-◌, ◌<◌, ◌≤◌, ◌≡◌, refl, Option as Answer, Some, None, List, eqb, length, take, drop}
-use Rattle.std.specs.Bool.{then_some}
-use Rattle.std.proofs.Common.{sym, ap, ◌∙◌, arith, take-append-drop, eqb-true, ne_eqb}
+use Rattle.std.specs.Prelude.{ℕ, suc, ◌+◌, ◌*◌, ◌-◌, ◌<◌, ◌≤◌, ◌≡◌, refl, Some, None, List, eqb, length, take, drop}
+use Rattle.std.proofs.Common.{sym, ap, ◌∙◌, arith, take-append-drop, eqb-true}
 use Rattle.std.proofs.Math.Option.{Option, none, some}
-use Rattle.std.proofs.lemmas.Bool.{eqb-false}
 use Rattle.paper.specs.TestLaws.{by_test}
-use Rattle.paths.specs.Children.{letter, first_child, child_count, named, sought, child, nodes_in}
-use Rattle.paths.specs.ChildLaws.{sought_here, sought-past}
+use Rattle.paths.specs.Children.{first_child, child_count, sought, child, nodes_in}
 use Rattle.walks.specs.Walk.{reached}
 use Rattle.walks.specs.DeepestLaws.{reached-nowhere}
 use Rattle.forests.specs.Forest.{total, Forest}
 use Rattle.forests.specs.ForestPaths.{reached_in}
-use Rattle.forests.specs.TotalLaws.{behind_roots, total_next, total_inside}
+use Rattle.forests.specs.TotalLaws.{total_next, total_inside}
 use Rattle.judging.specs.Notes.{handed, Fits, Rooted}
 
 -- where a path has led so far
@@ -20,7 +17,6 @@ pub record At (table : List ℕ) (at size : ℕ) : Type 0 where
   pub here : 4 * at + 4 ≤ length table
   pub children_in : 4 * (first_child table at + child_count table at) ≤ length table
   pub few : first_child table at + child_count table at ≤ size
-  pub no_root : 0 < child_count table at → 0 < first_child table at
 
 module _ {table : List ℕ} {root size : ℕ} (rooted : Rooted table root size) (tail : List ℕ) (at : ℕ)
     (there : reached (nodes_in table) root tail ≡ some at) where
@@ -43,15 +39,6 @@ module _ {table : List ℕ} {root size : ℕ} (rooted : Rooted table root size) 
       let is-first : first_child table at ≡ total table rooted.roots at = first ∙ rw p in
       omega (arith, total_next table rooted.roots at))
 
-  children_behind : 0 < child_count table at → 0 < first_child table at
-  children_behind some-child =
-      let first = (forest.row at at_in).first_is in
-      let root_in = rooted.root_in in
-      by_test (eqb (child_count table at) 0) (λ p. let no_child = eqb-true (child_count table at) 0 p in omega arith)
-      (λ p.
-      let is-first : first_child table at ≡ total table rooted.roots at = first ∙ rw p in
-      omega (arith, behind_roots table rooted.roots at))
-
   pub at_node : At table at size
   at_node =
       record {
@@ -59,7 +46,6 @@ module _ {table : List ℕ} {root size : ℕ} (rooted : Rooted table root size) 
         here = omega (arith, at_in, forest.inside);
         children_in = omega (arith, children_end, forest.inside);
         few = omega (arith, children_end, rooted.fits.few);
-        no_root = children_behind;
       }
 
 -- one of the roots
@@ -71,23 +57,21 @@ rooted_in fits h same =
       root_in = h;
     }
 
--- the first child whose letter is not smaller is the one sought, or there is none
-pub among_here : (count : ℕ) (table : List ℕ) (one at : ℕ) → 0 < count → 0 < at → one ≤ letter table at
-    → then_some (eqb one (letter table at)) at ≡ named (sought count table one at)
-among_here count table one at more no_root up-to =
-    by_test (eqb one (letter table at))
-    (λ p.
-    let here = sought_here count table one at more (eqb-true one (letter table at) p) in
-    rw (p, here, ne_eqb at 0 (omega arith)))
-    (λ p.
-    let apart = eqb-false one (letter table at) p in
-    rw (p, sought-past count table one at (omega arith)))
+-- more places serve too
+pub wider : {table : List ℕ} {root size more : ℕ} → Rooted table root size → size ≤ more → Rooted table root more
+wider rooted h =
+    let fits = rooted.fits in
+    record {
+      roots = rooted.roots;
+      fits = record { nodes = fits.nodes; forest = fits.forest; few = omega (arith, fits.few) };
+      root_in = rooted.root_in;
+    }
 
 -- what is found among the children is the child
-pub child_among : (table : List ℕ) (at letter first end : ℕ) {node : Answer ℕ} → first ≡ first_child table at
-    → end ≡ first + child_count table at → node ≡ named (sought (end - first) table letter first) → node ≡ named (child table at letter)
+pub child_among : (table : List ℕ) (at letter first end found : ℕ) → first ≡ first_child table at → end ≡ first + child_count table at
+    → found ≡ sought (end - first) table letter first → found ≡ child table at letter
 unfolding child
-child_among table at letter first end f e is =
+child_among table at letter first end found f e is =
     let long : end - first ≡ child_count table at = omega arith in
     is ∙ rw (long, f)
 

@@ -12,6 +12,7 @@ use Rattle.std.proofs.Math.ListN.{length, take, drop}
 use Rattle.paper.specs.Groups.{same}
 use Rattle.paper.specs.GroupsLaws.{same_equal}
 use Rattle.paper.specs.ListLaws.{drop-take}
+use Rattle.paper.specs.Settled.{settled}
 use Rattle.paper.specs.TestLaws.{apart, by_test, and_parts, and_both}
 use Rattle.records.specs.Framing.{body, record_length, after, cut, body_place, next_place}
 use Rattle.records.specs.FramingLaws.{beyond, next_inside, body_there, length-body}
@@ -229,7 +230,14 @@ module _ (list word : List ℕ) where
 -- ## What is lent is what stands there
 
 module _ (list : Bor (List ℕ)) where
-  pub lent_stem : (place : Place) (stem : Option (List ℕ)) (part : Bor (List ℕ)) → LentFrom list place (Some part) → Stands list.now stem place
+  -- so any two parts that the search may hand back have the same bytes, and stand at the same place
+  pub lent_one : (place : Place) (one other : Bor (List ℕ)) → LentFrom list place (Some one) → LentFrom list place (Some other)
+      → (one.now ≡ other.now) × (one.ref_ptr ≡ other.ref_ptr)
+  lent_one (Listed start end) one other a b = (settled a.0 b.0, settled a.1 b.1)
+  lent_one Unlisted one other a b = absurd a
+
+  pub lent_stem : (place : Place) (stem : Option (List ℕ)) (part : Bor (List ℕ)) → LentFrom list place (Some part)
+      → Stands list.now stem place
       → stem ≡ some part.now
   lent_stem (Listed start end) stem part lent stands = stands.2 ∙ ap some (sym lent.0)
   lent_stem Unlisted stem part lent stands = absurd lent

@@ -3,14 +3,6 @@
 
 ghost use Rattle.std.specs.Prelude.{◌≡◌, ◌+◌, ◌*◌, ◌<◌};
 
-// A byte as a number that an index can be.
-pub fn wide(byte: u8) -> usize
-    ensures value { result ≡ byte }
-    ensures upper_bound { result < 256 }
-{
-    usize::from(byte)
-}
-
 // "numbers are little-endian": the number of two bytes.
 pub fn pair(low: u8, high: u8) -> usize
     ensures value { result ≡ low + 256 * high }

@@ -1,8 +1,8 @@
 -- Why a step need not read all rules of its group, or none: by the last letters of the word. Over any rule list.
 use Prim.Native.Nat.{ℕ}
 use native.Mathlib.Omega.{arith}
-use mathlib.Core.Path.{◌≡◌, sym, ◌∙◌}
-use mathlib.Core.Bool.{Bool, true, false}
+use mathlib.Core.Path.{◌≡◌}
+use mathlib.Core.Bool.{true, false}
 use mathlib.Core.List.{List}
 use mathlib.Core.Option.{none}
 use lib.ListN.{length}
@@ -13,8 +13,6 @@ use Rattle.paper.specs.FirstFits.{decides, rule_of, undecided, last_among, other
 use Rattle.rules.specs.RowsLaws.{Held}
 use Rattle.groups.specs.Reads.{Narrowed}
 use Rattle.readings.specs.Steps.{Outside}
-use Rattle.blocks.specs.Blocks.{Entry, passes, names, keeps}
-use Rattle.blocks.specs.Named.{only_named, none_named}
 
 -- ## The last letter
 
@@ -25,19 +23,6 @@ pub none_last :
     → among (letter_at 0 word) letters ≡ false
     → obeyed word rules ≡ none
 none_last word letters rules all other = undecided word rules (other_last word letters rules all other)
-
--- ## The block of a word's second last letter
-
-module _ (rules : List Rule) (index : List Entry) (kept : keeps rules index ≡ true) (second from to lasts thirds : ℕ)
-    (named : names index second from to lasts thirds ≡ true) (word : List ℕ) (is : second ≡ letter_at 1 word) {b : Bool}
-    (tells : b ≡ passes lasts thirds word) where
-  -- what is asked where the block's rules are read
-  pub block_asks : {n : ℕ} → length rules ≡ n → b ≡ true → Outside rules from to n word
-  block_asks size passing = rw size at (only_named rules index kept second from to lasts thirds named word is (sym tells ∙ passing))
-
-  -- and where its sets do not have the word's letters no rule is obeyed
-  pub block_fails : b ≡ false → obeyed word rules ≡ none
-  block_fails fails = undecided word rules (none_named rules index kept second from to lasts thirds named word is (sym tells ∙ fails))
 
 -- ## A table that holds a group
 

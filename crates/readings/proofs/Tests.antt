@@ -19,7 +19,11 @@ use Rattle.paper.specs.Shipped.{group_5b}
 use Rattle.rules.specs.Rows.{rows_of}
 use Rattle.rules.specs.RowsLaws.{held_1a, held_1b, held_follow_up, held_1c, held_2, held_3, held_4, held_5a, held_5b}
 use Rattle.groups.specs.Reads.{cuts, free, Paired}
+use Rattle.blocks.specs.Blocks.{keeps}
 use Rattle.blocks.specs.BlocksLaws.{needs_part, too_short}
+use Rattle.blocks.specs.Indexes.{group_of, index_of, keeps_2, keeps_3, keeps_4}
+use Rattle.blocks.specs.declared.Index.{Index}
+use Rattle.blocks.specs.declared.Index.TheVariants.{Step2, Step3, Step4}
 use Rattle.readings.proofs.Narrow.{Decides}
 
 -- ## Step 1a
@@ -88,19 +92,15 @@ last_1c = refl
 
 -- ## Steps 2 to 4
 
-pub reads_2 : (table : List ℕ) → table ≡ rows_of group_2 → Decides table group_2 20
+reads_2 : (table : List ℕ) → table ≡ rows_of group_2 → Decides table group_2 (length group_2)
 unfolding decides every apart_from ends_with same letters rule group_2
 reads_2 table is = rw is (record { held = held_2; one = refl; size = refl })
 
-pub short_2 : (word : List ℕ) → length word < 3 → obeyed word group_2 ≡ none
+short_2 : (word : List ℕ) → length word < 3 → obeyed word group_2 ≡ none
 unfolding every needs_part holds conditions measure rises inward letters rule group_2
 short_2 word short = too_short word group_2 refl short
 
-pub size_2 : length group_2 ≡ 20
-unfolding group_2
-size_2 = refl
-
-pub reads_3 : (table : List ℕ) → table ≡ rows_of group_3 → Decides table group_3 7
+reads_3 : (table : List ℕ) → table ≡ rows_of group_3 → Decides table group_3 (length group_3)
 unfolding decides every apart_from ends_with same letters rule group_3
 reads_3 table is = rw is (record { held = held_3; one = refl; size = refl })
 
@@ -108,15 +108,11 @@ pub cuts_3 : every cuts group_3 ≡ true
 unfolding every same cuts letters rule group_3
 cuts_3 = refl
 
-pub short_3 : (word : List ℕ) → length word < 3 → obeyed word group_3 ≡ none
+short_3 : (word : List ℕ) → length word < 3 → obeyed word group_3 ≡ none
 unfolding every needs_part holds conditions measure rises inward letters rule group_3
 short_3 word short = too_short word group_3 refl short
 
-pub size_3 : length group_3 ≡ 7
-unfolding group_3
-size_3 = refl
-
-pub reads_4 : (table : List ℕ) → table ≡ rows_of group_4 → Decides table group_4 19
+reads_4 : (table : List ℕ) → table ≡ rows_of group_4 → Decides table group_4 (length group_4)
 unfolding decides every apart_from ends_with same letters rule group_4
 reads_4 table is = rw is (record { held = held_4; one = refl; size = refl })
 
@@ -124,13 +120,25 @@ pub cuts_4 : every cuts group_4 ≡ true
 unfolding every same cuts letters rule group_4
 cuts_4 = refl
 
-pub short_4 : (word : List ℕ) → length word < 3 → obeyed word group_4 ≡ none
+short_4 : (word : List ℕ) → length word < 3 → obeyed word group_4 ≡ none
 unfolding every needs_part holds conditions measure rises inward letters rule group_4
 short_4 word short = too_short word group_4 refl short
 
-pub size_4 : length group_4 ≡ 19
-unfolding group_4
-size_4 = refl
+pub keeps_of : (index : Index) → keeps (group_of index) (index_of index) ≡ true
+keeps_of Step2 = keeps_2
+keeps_of Step3 = keeps_3
+keeps_of Step4 = keeps_4
+
+pub reads_of : (index : Index) (table : List ℕ) → table ≡ rows_of (group_of index)
+    → Decides table (group_of index) (length (group_of index))
+reads_of Step2 = reads_2
+reads_of Step3 = reads_3
+reads_of Step4 = reads_4
+
+pub short_of : (index : Index) (word : List ℕ) → length word < 3 → obeyed word (group_of index) ≡ none
+short_of Step2 = short_2
+short_of Step3 = short_3
+short_of Step4 = short_4
 
 -- ## Step 5
 

@@ -2,16 +2,21 @@
 // that a condition is a look; a step whose rules only cut takes word and states as they are.
 #![tactic(auto)]
 
-ghost use Rattle.std.specs.Prelude.{◌≡◌, ◌≤◌, length, take};
-ghost use Rattle.paper.specs.Shipped.{group_1a, group_1b, follow_up, group_1c, group_2, group_3, group_4, group_5a, group_5b};
+ghost use Rattle.std.specs.Prelude.{◌≡◌, ◌≤◌, true, length, take};
+ghost use Rattle.paper.specs.Shipped.{group_1a, group_1b, follow_up, group_1c, group_2, group_5a, group_5b};
 ghost use Rattle.paper.specs.Words.{taken, judged, first_other};
-ghost use Rattle.paper.specs.Noted.{Noted};
-ghost use Rattle.groups.specs.Reads.{leaves, Cut, CutOpens, Stands, Written};
-ghost use Rattle.readings.specs.Steps.{WrittenOpened, leaves_opened, leaves_last, ReadStands};
+ghost use Rattle.paper.specs.ReadingLaws.{every};
+ghost use Rattle.rules.specs.Shipped.{rules_of};
+ghost use Rattle.blocks.specs.Indexes.{group_of};
+ghost use Rattle.groups.specs.Reads.{cuts, leaves, Cut, CutOpens, Stands, Written};
+ghost use Rattle.readings.specs.Steps.{Compared, WrittenOpened, leaves_opened, leaves_last, ReadStands};
 
-use blocks::{block_2, block_3, block_4};
+mod noted;
+
+use blocks::{Block, Index};
 use conditions::letter_at;
 use groups::{Left, cut_by, cut_free, cut_pair, write_by, write_pair};
+use noted::NotedWord;
 use rules::{Group, table};
 
 // Its rules have no condition, so that no state is asked for.
@@ -25,17 +30,16 @@ fn step_1a(word: &[u8]) -> usize
     cut_free(word, 4, rules)
 }
 
-fn cut_1b(word: &[u8], states: &[u8]) -> Left
-    requires { Noted word.now states.now }
-    ensures { CutOpens group_1b word.now result.len result.opened }
+fn cut_1b(word: NotedWord<'_>) -> Left
+    ensures { CutOpens group_1b word.entry.letters.now result.len result.opened }
 {
-    let last = letter_at(word, 0);
+    let last = letter_at(word.letters, 0);
     if (last == b'd') | (last == b'g') {
         let rules = table(Group::Step1b);
-        return cut_by(word, states, 0, 3, rules);
+        return cut_by(word.letters, word.states, 0, 3, rules);
     }
     Left {
-        len: word.len(),
+        len: word.letters.len(),
         opened: false,
     }
 }
@@ -55,7 +59,10 @@ fn step_1b(word: &mut [u8], states: &mut [u8], len: usize) -> usize
     requires word_in_bounds { length (leaves_opened group_1b follow_up (take len word.old)) ≤ length word.old }
     ensures { WrittenOpened group_1b follow_up (take len word.old) word.new states.new result }
 {
-    let left = cut_1b(&word[..len], &states[..]);
+    let left = cut_1b(NotedWord {
+        letters: &word[..len],
+        states: &states[..],
+    });
     if left.opened {
         return follow(word, states, left.len);
     }
@@ -74,86 +81,74 @@ fn step_1c(word: &mut [u8], states: &mut [u8], len: usize) -> usize
     write_by(word, states, len, 0, 1, rules)
 }
 
+// Which rules of a group with an index can end a word. Without a block the word obeys none.
+fn block_of(index: Index, word: &[u8]) -> Option<Block>
+    ensures { Compared (group_of index) word.now result }
+{
+    if word.len() < 3 {
+        return None;
+    }
+    let block = index.block(letter_at(word, 1));
+    if block.keeps(word) { Some(block) } else { None }
+}
+
 fn step_2(word: &mut [u8], states: &mut [u8], len: usize) -> usize
     requires stands { Stands word.old states.old len }
     requires word_in_bounds { length (leaves group_2 (take len word.old)) ≤ length word.old }
     ensures { Written group_2 (take len word.old) word.new states.new result }
 {
-    if len < 3 {
+    let Some(block) = block_of(Index::Step2, &word[..len]) else {
         return len;
-    }
-    let block = block_2(letter_at(&word[..len], 1));
-    if !block.keeps(&word[..len]) {
-        return len;
-    }
+    };
     let rules = table(Group::Step2);
     write_by(word, states, len, block.from, block.to, rules)
 }
 
-fn step_3(word: &[u8], states: &[u8]) -> usize
-    requires { Noted word.now states.now }
-    ensures { Cut group_3 word.now result }
+// Steps 3 and 4. Inlined, so that the constants of each are in its code: as a call, a word takes a tenth longer.
+#[inline(always)]
+fn cut_within(index: Index, group: Group, word: NotedWord<'_>) -> usize
+    requires same { rules_of group ≡ group_of index }
+    requires cut { every cuts (group_of index) ≡ true }
+    ensures { Cut (group_of index) word.entry.letters.now result }
 {
-    if word.len() < 3 {
-        return word.len();
-    }
-    let block = block_3(letter_at(word, 1));
-    if !block.keeps(word) {
-        return word.len();
-    }
-    let rules = table(Group::Step3);
-    cut_by(word, states, block.from, block.to, rules).len
-}
-
-fn step_4(word: &[u8], states: &[u8]) -> usize
-    requires { Noted word.now states.now }
-    ensures { Cut group_4 word.now result }
-{
-    if word.len() < 3 {
-        return word.len();
-    }
-    let block = block_4(letter_at(word, 1));
-    if !block.keeps(word) {
-        return word.len();
-    }
-    let rules = table(Group::Step4);
-    cut_by(word, states, block.from, block.to, rules).len
+    let Some(block) = block_of(index, word.letters) else {
+        return word.letters.len();
+    };
+    let rules = table(group);
+    cut_by(word.letters, word.states, block.from, block.to, rules).len
 }
 
 // Its two rules have the same ending.
-fn step_5a(word: &[u8], states: &[u8]) -> usize
-    requires { Noted word.now states.now }
-    ensures { Cut group_5a word.now result }
+fn step_5a(word: NotedWord<'_>) -> usize
+    ensures { Cut group_5a word.entry.letters.now result }
 {
-    if letter_at(word, 0) != b'e' {
-        return word.len();
+    if letter_at(word.letters, 0) != b'e' {
+        return word.letters.len();
     }
     let rules = table(Group::Step5a);
-    cut_pair(word, states, 2, rules)
+    cut_pair(word.letters, word.states, 2, rules)
 }
 
-fn step_5b(word: &[u8], states: &[u8]) -> usize
-    requires { Noted word.now states.now }
-    ensures { Cut group_5b word.now result }
+fn step_5b(word: NotedWord<'_>) -> usize
+    ensures { Cut group_5b word.entry.letters.now result }
 {
     // the condition asks for an l
-    if letter_at(word, 0) != b'l' {
-        return word.len();
+    if letter_at(word.letters, 0) != b'l' {
+        return word.letters.len();
     }
     let rules = table(Group::Step5b);
-    cut_by(word, states, 0, 1, rules).len
+    cut_by(word.letters, word.states, 0, 1, rules).len
 }
 
 // How many letters the last four groups leave, which only cut.
-fn cut_last(word: &[u8], states: &[u8]) -> usize
-    requires { Noted word.now states.now }
-    ensures word_value { take result word.now ≡ leaves_last word.now }
-    ensures upper_bound { result ≤ length word.now }
+fn cut_last(word: NotedWord<'_>) -> usize
+    ensures word_value { take result word.entry.letters.now ≡ leaves_last word.entry.letters.now }
+    ensures upper_bound { result ≤ length word.entry.letters.now }
 {
-    let after_3 = step_3(word, states);
-    let after_4 = step_4(&word[..after_3], states);
-    let after_5a = step_5a(&word[..after_4], states);
-    step_5b(&word[..after_5a], states)
+    let after_3 = cut_within(Index::Step3, Group::Step3, word);
+    let after_4 = cut_within(Index::Step4, Group::Step4, word.front(after_3));
+    let after_5a = step_5a(word.front(after_4));
+    step_5b(word.front(after_5a))
 }
 
 // Reads all groups in the word's place, and returns how many letters they leave there.
@@ -165,7 +160,10 @@ fn read_by(word: &mut [u8], states: &mut [u8]) -> usize
     let after_1b = step_1b(word, states, after_1a);
     let after_1c = step_1c(word, states, after_1b);
     let after_2 = step_2(word, states, after_1c);
-    cut_last(&word[..after_2], &states[..])
+    cut_last(NotedWord {
+        letters: &word[..after_2],
+        states: &states[..],
+    })
 }
 
 // The place of the first byte outside a to z, or the word's length; and how many letters the groups leave.

@@ -1,20 +1,37 @@
 // Request 5, a sheet and a table: the number returned, the value, and the table afterwards. Request 6, a sheet, a table and a
 // word: the number returned, the value, and the word's place afterwards.
+ghost use Rattle.std.specs.Prelude.{IfOk, IfSome};
+ghost use Rattle.std.specs.Counts.{IsPrefixLen};
+
 use requests::{input, output};
 use std::io;
 use std::io::{Read, Write};
 
+// Reads a sheet and a table, each into the space lent for it, and says how long they are.
+fn read_both(
+    from: &mut impl Read,
+    sheet: &mut [u8],
+    table: &mut [u16],
+) -> io::Result<Option<(usize, usize)>>
+    ensures { IfOk result (λ both. IfSome both (λ sizes. IsPrefixLen sizes.0 sheet.new × IsPrefixLen sizes.1 table.new)) }
+{
+    let Some(size) = input::read(from, sheet)? else {
+        return Ok(None);
+    };
+    let Some(count) = input::read_table(from, table)? else {
+        return Ok(None);
+    };
+    Ok(Some((size, count)))
+}
+
 // Reads the arguments, answers, and says whether the request was whole. A sheet may have 16,384 bytes, a table 16,384 numbers.
 pub fn answered_translation(from: &mut impl Read, to: &mut impl Write) -> io::Result<bool> {
-    let mut sheet_space = [0u8; 16384];
-    let Some(size) = input::read(from, &mut sheet_space)? else {
+    let mut sheet = [0u8; 16384];
+    let mut table = [0u16; 16384];
+    let Some((size, count)) = read_both(from, &mut sheet, &mut table)? else {
         return Ok(false);
     };
-    let mut table_space = [0u16; 16384];
-    let Some(count) = input::read_table(from, &mut table_space)? else {
-        return Ok(false);
-    };
-    answer_translation(to, &sheet_space[..size], &mut table_space[..count])?;
+    answer_translation(to, &sheet[..size], &mut table[..count])?;
     Ok(true)
 }
 
@@ -26,24 +43,16 @@ fn answer_translation(to: &mut impl Write, sheet: &[u8], table: &mut [u16]) -> i
 
 // A word may have 4,096 bytes.
 pub fn answered_run(from: &mut impl Read, to: &mut impl Write) -> io::Result<bool> {
-    let mut sheet_space = [0u8; 16384];
-    let Some(size) = input::read(from, &mut sheet_space)? else {
+    let mut sheet = [0u8; 16384];
+    let mut table = [0u16; 16384];
+    let Some((size, count)) = read_both(from, &mut sheet, &mut table)? else {
         return Ok(false);
     };
-    let mut table_space = [0u16; 16384];
-    let Some(count) = input::read_table(from, &mut table_space)? else {
+    let mut word = [0u8; 4096];
+    let Some(length) = input::read(from, &mut word)? else {
         return Ok(false);
     };
-    let mut word_space = [0u8; 4096];
-    let Some(length) = input::read(from, &mut word_space)? else {
-        return Ok(false);
-    };
-    answer_run(
-        to,
-        &sheet_space[..size],
-        &table_space[..count],
-        &mut word_space[..length],
-    )?;
+    answer_run(to, &sheet[..size], &table[..count], &mut word[..length])?;
     Ok(true)
 }
 

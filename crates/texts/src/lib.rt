@@ -53,6 +53,7 @@ fn rewrite(list: &[u8], text: &mut [u8]) -> Result<Counts, TooLong>
     let mut stemmed = 0;
     let mut left = 0;
     let mut at = 0;
+    // no iterator over the words: each is lent to be written while the text is searched on behind it
     while at < text.len() {
         let start = pieces::next_word_at(&text[..], at);
         let next = pieces::word_run(&text[..], start);

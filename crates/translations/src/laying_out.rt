@@ -81,6 +81,7 @@ pub(crate) fn lay(sheet: AcceptedSheet<'_>, table: &mut [u16])
 {
     let mut next = begin(sheet, table);
     let mut row = 0;
+    // no range to go over: each row's children are rows too
     while row < next {
         next = finish(sheet, table, row, next);
         row += 1;

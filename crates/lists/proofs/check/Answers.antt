@@ -1,6 +1,6 @@
 use Rattle.std.proofs.Common.{ℕ, ◌≡◌, sym, ap, subst, refl, ◌∙◌, List, ok_or, Option, Some, None, Ok, Err, arith}
 use Rattle.std.proofs.lemmas.Result.{err_from_is_err_and}
-use Rattle.paper.specs.TestLaws.{apart}
+use Rattle.answers.proofs.Found.{some_found, none_found}
 use Rattle.lists.specs.Searches.{item_at}
 use Rattle.lists.specs.ListSteps.{EntryAt, Says, item_says}
 use Rattle.lists.specs.CheckLaws.{starts, past_word, at_close, at_fault}
@@ -8,14 +8,6 @@ use Rattle.lists.specs.declared.Item.{Item}
 use Rattle.lists.specs.declared.Item.TheVariants.{Word, Close}
 use Rattle.lists.proofs.check.Goals as goal
 use Rattle.lists.proofs.check.Goals.{In-Word}
-
-some_found : {A E : Type 0} (found : Option A) (refusal : E) {one : A} → ok_or found refusal ≡ Ok one → found ≡ Some one
-some_found (Some other) refusal is = cc
-some_found None refusal is = apart (cc)
-
-none_found : {A E : Type 0} (found : Option A) (refusal : E) {given : E} → ok_or found refusal ≡ Err given → (found ≡ None) × (given ≡ refusal)
-none_found (Some other) refusal is = apart (cc)
-none_found None refusal is = (refl, cc)
 
 -- the only other item is the close
 the_close : (item : Item) → ((next : ℕ) → item ≡ Word next → ⊥) → item ≡ Close

@@ -29,7 +29,8 @@ module _ (body : List ℕ) where
   letters = ap all_small (behind body) ∙ all_small_append (word_in body) (stem_in body)
 
   -- the lengths are right
-  module _ {n : ℕ} (is : n ≡ word_length body) (most : n ≤ 64) (stem : n < length (drop 1 body)) (no_more : length (drop 1 body) - n ≤ n) where
+  module _ {n : ℕ} (is : n ≡ word_length body) (most : n ≤ 64) (stem : n < length (drop 1 body))
+      (no_more : length (drop 1 body) - n ≤ n) where
     well : all_small (drop 1 body) ≡ true → faulty_entry body ≡ false
     unfolding faulty_entry
     well all =
@@ -52,7 +53,8 @@ module _ (body : List ℕ) where
         by_test (all_small (drop 1 body)) (λ all. rw all (sym (well all)))
         (λ other. rw other (refuse (λ s. false≢true (sym other ∙ letters ∙ and_both s.is.small_word s.is.small_stem))))
 
-    judged : {letters : List ℕ} {first : ℕ} → letters ≡ drop 1 body → first ≡ first_other letters → ltb first (length letters) ≡ faulty_entry body
+    judged : {letters : List ℕ} {first : ℕ} → letters ≡ drop 1 body → first ≡ first_other letters
+        → ltb first (length letters) ≡ faulty_entry body
     judged letters_are first_is = rw (first_is, letters_are) (other_inside (drop 1 body) ∙ by_letters)
 
 pub returns-in_default : goal.returns-in_default
@@ -66,10 +68,12 @@ returns-then-n-gt-MOST c =
     elim c.then-n-gt-MOST.branch [
       | long w ↦ refuse body (λ s. omega (arith, s.is.most, s.word_size, n, w.if-n-gt-MOST.true))
       | no_stem w ↦ refuse body (λ s. omega (arith, s.is.some_stem, s.stem_size, n, letters, length-drop 1 body, w.if-size-n.true))
-      | long_stem w ↦ refuse body (λ s. omega (arith, s.is.no_more, s.word_size, s.stem_size, n, letters, length-drop 1 body, w.if-n-size.true))
+      | long_stem w ↦
+          refuse body (λ s. omega (arith, s.is.no_more, s.word_size, s.stem_size, n, letters, length-drop 1 body, w.if-n-size.true))
     ]
 
 pub returns : goal.returns
 returns c =
     let letters = to_the_end c.args.body.now 1 in
-    judged _ c.from-n.ensures c.if-n-gt-MOST.false (rw letters at c.if-size-n.false) (rw letters at c.if-n-size.false) letters c.first_other.ensures
+    judged _ c.from-n.ensures c.if-n-gt-MOST.false (rw letters at c.if-size-n.false) (rw letters at c.if-n-size.false) letters
+    c.first_other.ensures

@@ -19,7 +19,8 @@ module _ (list : List ℕ) (at : ℕ) where
     kind_of : {n : ℕ} → k ≡ n → kind (drop at list) ≡ n
     kind_of known = sym is.kind_is ∙ known
 
-    word_here : {test : Bool} → k ≡ 4 → test ≡ faulty_entry (take (next - b) (drop b list)) → cond test None (Some (Word next)) ≡ item_at list at
+    word_here : {test : Bool} → k ≡ 4 → test ≡ faulty_entry (take (next - b) (drop b list))
+        → cond test None (Some (Word next)) ≡ item_at list at
     unfolding item_at faulty
     word_here four judged = rw (is.whole, kind_of four, ← is.body_is, ← judged, ← is.next_is)
 
@@ -44,16 +45,25 @@ returns-in_err-frame c =
     rw c.from_residual.ensures (cut_here args.list.now args.at (framed args.list.now args.at None (sym c.in_err-frame.ensures.frame)))
 
 pub returns-in-3 : goal.returns-in-3
-returns-in-3 c = close_here _ _ (frame-of (goal.at.returns-in-3 c).In_ok-frame) c.in-3.is (sym c.if-not-faulty_end.true ∙ c.faulty_end.ensures)
+returns-in-3 c =
+    close_here _ _ (frame-of (goal.at.returns-in-3 c).In_ok-frame) c.in-3.is
+    (sym c.if-not-faulty_end.true ∙ c.faulty_end.ensures)
 
 pub returns-in-4 : goal.returns-in-4
-returns-in-4 c = word_here _ _ (frame-of (goal.at.returns-in-4 c).In_ok-frame) c.in-4.is (sym c.if-not-faulty_entry.true ∙ c.faulty_entry.ensures)
+returns-in-4 c =
+    word_here _ _ (frame-of (goal.at.returns-in-4 c).In_ok-frame) c.in-4.is
+    (sym c.if-not-faulty_entry.true ∙ c.faulty_entry.ensures)
 
 pub returns-in_default : goal.returns-in_default
-returns-in_default c = close_here _ _ (frame-of (goal.at.returns-in_default c).In_ok-frame) c.in-3.is (sym c.if-not-faulty_end.false ∙ c.faulty_end.ensures)
+returns-in_default c =
+    close_here _ _ (frame-of (goal.at.returns-in_default c).In_ok-frame) c.in-3.is
+    (sym c.if-not-faulty_end.false ∙ c.faulty_end.ensures)
 
 pub returns-in_default-2 : goal.returns-in_default-2
-returns-in_default-2 c = word_here _ _ (frame-of (goal.at.returns-in_default-2 c).In_ok-frame) c.in-4.is (sym c.if-not-faulty_entry.false ∙ c.faulty_entry.ensures)
+returns-in_default-2 c =
+    word_here _ _ (frame-of (goal.at.returns-in_default-2 c).In_ok-frame) c.in-4.is
+    (sym c.if-not-faulty_entry.false ∙ c.faulty_entry.ensures)
 
 pub returns-in_default-3 : goal.returns-in_default-3
-returns-in_default-3 c = other_here _ _ (frame-of (goal.at.returns-in_default-3 c).In_ok-frame) (λ is. omega (arith, is)) (λ is. omega (arith, is))
+returns-in_default-3 c =
+    other_here _ _ (frame-of (goal.at.returns-in_default-3 c).In_ok-frame) (λ is. omega (arith, is)) (λ is. omega (arith, is))

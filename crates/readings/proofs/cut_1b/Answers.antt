@@ -12,11 +12,11 @@ use Rattle.readings.proofs.Tests.{reads_1b, cuts_1b, last_1b}
 use Rattle.readings.proofs.cut_1b.Goals as goal
 
 pub returns-then-last : goal.returns-then-last
-returns-then-last c = c.cut_by.ensures group_1b c.requires (whole (reads_1b _ c.table-rules.ensures)) cuts_1b
+returns-then-last c = c.cut_by.ensures group_1b c.args.word.noted (whole (reads_1b _ c.table-rules.ensures)) cuts_1b
 
 pub returns : goal.returns
 unfolding letters among opens_next
-returns c = let word = c.args.word.now in
+returns c = let word = c.args.word.letters.now in
     let last = c.letter_at-last.result in
     let d = neither_left (eqb last 100) (eqb last 103) c.if-last.false in
     let g = neither_right (eqb last 100) (eqb last 103) c.if-last.false in

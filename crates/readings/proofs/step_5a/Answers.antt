@@ -11,12 +11,12 @@ use Rattle.readings.proofs.step_5a.Goals as goal
 
 pub returns-then-letter_at-ne101 : goal.returns-then-letter_at-ne101
 unfolding letters
-returns-then-letter_at-ne101 c = let word = c.args.word.now in
+returns-then-letter_at-ne101 c = let word = c.args.word.letters.now in
     kept_whole group_5a word
     (none_last word (letters "e") group_5a last_5a (rw (← c.letter_at.ensures) (not_one _ 101 c.if-letter_at-ne101.true)))
 
 pub returns : goal.returns
 unfolding letters
-returns c = let word = c.args.word.now in
+returns c = let word = c.args.word.letters.now in
     let ends = ends_one word 101 (omega arith) (sym c.letter_at.ensures ∙ c.if-letter_at-ne101.false) in
-    c.cut_pair.ensures group_5a c.requires (paired_5a _ word c.table-rules.ensures ends) cuts_5a
+    c.cut_pair.ensures group_5a c.args.word.noted (paired_5a _ word c.table-rules.ensures ends) cuts_5a

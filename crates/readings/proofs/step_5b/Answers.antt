@@ -31,4 +31,4 @@ pub returns-then-letter_at-ne108 : goal.returns-then-letter_at-ne108
 returns-then-letter_at-ne108 c = kept_whole group_5b _ (other_letter _ (rw (← c.letter_at.ensures) c.if-letter_at-ne108.true))
 
 pub returns : goal.returns
-returns c = (c.cut_by.ensures group_5b c.requires (whole (reads_5b _ c.table-rules.ensures)) cuts_5b).cut
+returns c = (c.cut_by.ensures group_5b c.args.word.noted (whole (reads_5b _ c.table-rules.ensures)) cuts_5b).cut

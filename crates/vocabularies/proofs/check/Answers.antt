@@ -2,19 +2,11 @@ use Rattle.std.proofs.Common.{ℕ, ◌≡◌, ◌<◌, false, eqb, ◌≤◌, ok
 use Rattle.std.proofs.lemmas.Result.{err_from_is_err_and}
 use borrow.Author.Tests.{eqb-true, eqb-false}
 use Rattle.paper.specs.ListLaws.{to_the_end, so_many}
-use Rattle.paper.specs.TestLaws.{apart}
+use Rattle.answers.proofs.Found.{some_found, none_found}
 use Rattle.vocabularies.specs.Reading.{found_in, size}
 use Rattle.vocabularies.specs.Passing.{starts, not_of_form, word_long, word_taken, line_inside, next, all_passed}
 use Rattle.vocabularies.proofs.check.Goals as goal
 use Rattle.vocabularies.proofs.check.Goals.{In_ok-found}
-
-some_found : {A E : Type 0} (found : Option A) (refusal : E) {one : A} → ok_or found refusal ≡ Ok one → found ≡ Some one
-some_found (Some other) refusal is = cc
-some_found None refusal is = apart (cc)
-
-none_found : {A E : Type 0} (found : Option A) (refusal : E) {given : E} → ok_or found refusal ≡ Err given → (found ≡ None) × (given ≡ refusal)
-none_found (Some other) refusal is = apart (cc)
-none_found None refusal is = (refl, cc)
 
 some_left : {n : ℕ} → false ≡ eqb n 0 → 0 < n
 some_left {n = n} is = let some = eqb-false n 0 (sym is) in omega arith

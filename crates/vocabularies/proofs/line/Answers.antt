@@ -24,10 +24,12 @@ pub overflow_add-word : goal.overflow_add-word
 overflow_add-word c = omega (arith, (letters_here 32 _ _ (first (goal.at.overflow_add-word c).In_ok-word)).inside)
 
 pub slice_bounds-letters_before-count : goal.slice_bounds-letters_before-count
-slice_bounds-letters_before-count c = omega (arith, (letters_here 32 _ _ (first (goal.at.slice_bounds-letters_before-count c).In_ok-word)).inside)
+slice_bounds-letters_before-count c =
+    omega (arith, (letters_here 32 _ _ (first (goal.at.slice_bounds-letters_before-count c).In_ok-word)).inside)
 
 pub slice_bounds-letters_before-start : goal.slice_bounds-letters_before-start
-slice_bounds-letters_before-start c = omega (arith, (letters_here 32 _ _ (first (goal.at.slice_bounds-letters_before-start c).In_ok-word)).inside)
+slice_bounds-letters_before-start c =
+    omega (arith, (letters_here 32 _ _ (first (goal.at.slice_bounds-letters_before-start c).In_ok-word)).inside)
 
 pub returns-in_err-stem : goal.returns-in_err-stem
 returns-in_err-stem c =

@@ -36,5 +36,6 @@ returns c =
     let is-taken : taken ≡ judged c.args.word.now =
     c.in_ok-judge_by.ensures ∙ rw (read.auto.word, read.ensures.other_value) (judged_by_lem c.args.word.now) in
     let left = read.ensures.read_stands is-taken in
-    gives_done (stem shipped) _ is-taken read.new.word _ read.result.len (stem_longer shipped _ (omega (arith, c.if-word-le2.false)) ∙ left.1)
+    gives_done (stem shipped) _ is-taken read.new.word _ read.result.len
+    (stem_longer shipped _ (omega (arith, c.if-word-le2.false)) ∙ left.1)
     (omega (arith, left.0, read.auto.word)) read.auto.word c.fill.ensures

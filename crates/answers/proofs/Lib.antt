@@ -1,0 +1,2 @@
+-- Laws of answers that are made of an option.
+pub mod Found
