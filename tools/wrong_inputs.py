@@ -203,14 +203,15 @@ fn main(rt: HostRuntime) -> io::Result<()> {{
 def values_of(call, coded):
     """What the program of a call wrote: its result and the room."""
     kind = result_of(call)
-    sizes = {"": 0, "bool": 1, "u8": 1, "usize": 4, "u64": 8, "Ran": 5, "Run": 5, "Option<usize>": 5, "ListChecked": 5}
-    size = sizes.get(kind, len(coded))
+    in_numbers = kind.startswith("Result<usize, ")
+    sizes = {"": 0, "bool": 1, "u8": 1, "usize": 4, "u64": 8, "Run": 5, "Option<usize>": 5}
+    size = 5 if in_numbers else sizes.get(kind, len(coded))
     result, room = coded[:size], coded[size:]
     if len(result) < size:
         return [coded]
     if kind.startswith("[u16"):
         values = [list(struct.unpack(f"<{size // 2}H", result))]
-    elif kind in ("Ran", "ListChecked"):
+    elif in_numbers:
         values = list(struct.unpack("<BI", result))
     elif kind == "Run":
         values = [int.from_bytes(result[:4], "little"), "true" if result[4] else "false"]

@@ -1,15 +1,14 @@
 -- Following an ending's letters through a forest, whose nodes are all inside the table.
-use Rattle.std.specs.Prelude.{ℕ, suc, ◌+◌, ◌*◌, ◌-◌, ◌<◌, ◌≤◌, ◌≡◌, refl, Some, None, List, eqb, length, take, drop}
-use Rattle.std.proofs.Common.{sym, ap, ◌∙◌, arith, take-append-drop, eqb-true}
-use Rattle.std.proofs.Math.Option.{Option, none, some}
+use Rattle.std.specs.Prelude.{ℕ, suc, ◌+◌, ◌*◌, ◌-◌, ◌<◌, ◌≤◌, ◌≡◌, List, eqb, length}
+use Rattle.std.proofs.Common.{◌∙◌, arith, eqb-true}
+use Rattle.std.proofs.Math.Option.{some}
 use Rattle.paper.specs.TestLaws.{by_test}
 use Rattle.paths.specs.Children.{first_child, child_count, sought, child, nodes_in}
 use Rattle.walks.specs.Walk.{reached}
-use Rattle.walks.specs.DeepestLaws.{reached-nowhere}
 use Rattle.forests.specs.Forest.{total, Forest}
 use Rattle.forests.specs.ForestPaths.{reached_in}
 use Rattle.forests.specs.TotalLaws.{total_next, total_inside}
-use Rattle.judging.specs.Notes.{handed, Fits, Rooted}
+use Rattle.judging.specs.Notes.{Fits, Rooted}
 
 -- where a path has led so far
 pub record At (table : List ℕ) (at size : ℕ) : Type 0 where
@@ -74,19 +73,3 @@ unfolding child
 child_among table at letter first end found f e is =
     let long : end - first ≡ child_count table at = omega arith in
     is ∙ rw (long, f)
-
--- where some letters lead nowhere, the whole ending does not either
-pub leads-nowhere : (table : List ℕ) (root : ℕ) (ending : List ℕ) (left : ℕ) → reached (nodes_in table) root (drop left ending) ≡ none
-    → None ≡ handed (reached (nodes_in table) root ending)
-leads-nowhere table root ending left e =
-    let whole = reached-nowhere (nodes_in table) root (take left ending) (drop left ending) e in
-    sym (ap handed (rw (take-append-drop left ending) at whole))
-
--- what is handed back tells where the letters lead
-pub none_there : (found : Option ℕ) → None ≡ handed found → found ≡ none
-none_there none e = refl
-none_there (some at) e = absurd (cc)
-
-pub node_there : (found : Option ℕ) (node : ℕ) → Some node ≡ handed found → found ≡ some node
-node_there none node e = absurd (cc)
-node_there (some at) node e = let same : at ≡ node = cc in ap some same

@@ -1,5 +1,5 @@
 -- The first rule that ends at each node, noted while the rules are gone through.
-use Rattle.std.specs.Prelude.{ℕ, ◌≤◌, ◌<◌, ◌≡◌, Bool, true, false, cond, Option as Answer, Some, None, List, eqb, length, get_or, set}
+use Rattle.std.specs.Prelude.{ℕ, ◌≤◌, ◌<◌, ◌≡◌, Bool, true, false, cond, List, eqb, length, get_or, set}
 use Rattle.std.proofs.Math.Option.{Option, none, some}
 use Rattle.paper.specs.Numbered.{number_of}
 use Rattle.paper.specs.NumberedLaws.{Every}
@@ -9,11 +9,6 @@ use Rattle.walks.specs.Faithful.{exists}
 use Rattle.walks.specs.Ends.{Node}
 use Rattle.forests.specs.Forest.{Forest}
 use Rattle.judging.specs.Led.{ends_at}
-
--- a node, or none, as it is handed back
-abbrev pub handed : Option ℕ → Answer ℕ
-handed none = None
-handed (some at) = Some at
 
 -- the rule noted at the node that was reached, if none is noted there
 unfoldable pub noted : Option ℕ → ℕ → List ℕ → List ℕ

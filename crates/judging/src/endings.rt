@@ -9,23 +9,12 @@ ghost use Rattle.walks.specs.Ends.{ends};
 ghost use Rattle.walks.specs.Faithful.{exists};
 ghost use Rattle.walks.specs.Walk.{reached};
 ghost use Rattle.judging.specs.Led.{Led};
-ghost use Rattle.judging.specs.Notes.{handed, noted, Fits, Rooted, Blank, NotedAs, Held};
+ghost use Rattle.judging.specs.Notes.{noted, Fits, Rooted, Blank, NotedAs, Held};
 
 use passing::pass;
-use paths::child;
+use paths::follow;
 use records::Record;
 use sheets::AcceptedSheet;
-
-// The node to which an ending's letters lead from a root, if they lead to one.
-fn follow(table: &[u16], root: usize, ending: &[u8]) -> Option<usize>
-    ensures { result ≡ handed (reached (nodes_in table.now) root ending.now) }
-{
-    let mut at = root;
-    for letter in ending.iter().rev() {
-        at = child(table, at, usize::from(*letter))?;
-    }
-    Some(at)
-}
 
 // Notes at the node where an ending leads the rule that has it, if none is noted there. Whether it leads anywhere.
 fn note(table: &[u16], root: usize, ending: &[u8], rule: u8, notes: &mut [u8]) -> bool

@@ -1,6 +1,7 @@
 -- Document 01, "The table", as W-206 amends it: the four numbers of a node, and the child of a node for a letter. Only single letters
 -- are compared.
-use Rattle.std.specs.Prelude.{ℕ, zero, suc, ◌+◌, ◌*◌, cond, List, eqb, ltb, get_or, Option, Some, None}
+use Rattle.std.specs.Prelude.{ℕ, zero, suc, ◌+◌, ◌*◌, cond, List, eqb, ltb, get_or, Option as Answer, Some, None}
+use Rattle.std.proofs.Math.Option.{Option, none, some}
 use Rattle.walks.specs.Walk.{Nodes}
 
 -- "Nodes of four 16-bit numbers: letter, first child, count of children, first rule."
@@ -29,8 +30,13 @@ unfoldable pub child : List ℕ → ℕ → ℕ → ℕ
 child table at one = sought (child_count table at) table one (first_child table at)
 
 -- the node that such a number names
-abbrev pub named : ℕ → Option ℕ
+abbrev pub named : ℕ → Answer ℕ
 named at = cond (eqb at 0) None (Some at)
+
+-- a node, or none, as it is handed back
+abbrev pub handed : Option ℕ → Answer ℕ
+handed none = None
+handed (some at) = Some at
 
 -- the nodes that a table's numbers lay out
 abbrev pub nodes_in : List ℕ → Nodes

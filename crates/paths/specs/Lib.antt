@@ -5,3 +5,5 @@ pub mod ChildLaws
 pub mod BeyondLaws
 -- Laws of letters that are taken from the last inward
 pub mod LettersLeft
+-- Laws of what is handed back of a path's end
+pub mod FollowLaws

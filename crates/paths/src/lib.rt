@@ -2,10 +2,10 @@
 // where the table has no number, 0 is read, and a node that it does not have holds no rule and has no child.
 #![tactic(auto)]
 
-ghost use Rattle.std.specs.Prelude.{◌≡◌, ◌<◌, get_or, IfSome};
+ghost use Rattle.std.specs.Prelude.{◌≡◌, ◌<◌, ◌^◌, get_or, IfSome};
 ghost use Rattle.paper.specs.Letters.{inward};
 ghost use Rattle.walks.specs.Walk.{deepest as deepest_of, reached, held};
-ghost use Rattle.paths.specs.Children.{child as child_of, named, nodes_in};
+ghost use Rattle.paths.specs.Children.{child as child_of, named, handed, nodes_in};
 
 // The number at a place of the table.
 pub fn number_at(table: &[u16], place: usize) -> usize
@@ -56,6 +56,18 @@ pub fn deepest(table: &[u16], root: usize, word: &[u8]) -> usize
     found
 }
 
+// The node to which an ending's letters lead from a root, if they lead to one.
+pub fn follow(table: &[u16], root: usize, ending: &[u8]) -> Option<usize>
+    ensures value { result ≡ handed (reached (nodes_in table.now) root ending.now) }
+    ensures upper_bound { root < 2 ^ 62 → IfSome result (λ at. at < 2 ^ 62) }
+{
+    let mut at = root;
+    for letter in ending.iter().rev() {
+        at = child(table, at, usize::from(*letter))?;
+    }
+    Some(at)
+}
+
 // The rule that the node holds to which an ending's letters lead from the root, 0 for none.
 pub fn held_at(table: &[u16], root: usize, ending: &[u8]) -> usize
     ensures { result ≡ held (nodes_in table.now) (reached (nodes_in table.now) root ending.now) }
@@ -63,12 +75,8 @@ pub fn held_at(table: &[u16], root: usize, ending: &[u8]) -> usize
     if table.len() <= root {
         return 0;
     }
-    let mut at = root;
-    for letter in ending.iter().rev() {
-        let Some(next) = child(table, at, usize::from(*letter)) else {
-            return 0;
-        };
-        at = next;
-    }
+    let Some(at) = follow(table, root, ending) else {
+        return 0;
+    };
     number_at(table, 4 * at + 3)
 }

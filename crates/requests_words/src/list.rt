@@ -38,7 +38,7 @@ pub fn answered_lookup(from: &mut impl Read, to: &mut impl Write) -> io::Result<
 
 fn answer_lookup(to: &mut impl Write, list: &[u8], word: &[u8]) -> io::Result<()> {
     let listed = lists::listed(list, word);
-    output::byte(to, if listed { 1 } else { 0 })?;
+    output::byte(to, u8::from(listed))?;
     let part = lists::lookup(list, word);
     output::number(to, part.len())?;
     output::bytes(to, part)

@@ -1,59 +1,17 @@
-use Prim.Native.Nat.{ℕ, ◌-◌}
-use mathlib.Core.Path.{◌≡◌, refl, sym, ap, ◌∙◌}
+-- `paths::held_at` meets its contract: the rule at the end of a path.
+use mathlib.Core.Path.{sym, ◌∙◌}
 use native.Mathlib.Omega.{arith}
-use lib.ListN.{length}
-use Rattle.std.specs.Slice.Iter.{iter_rest}
-use Rattle.std.specs.Iterator.Adapters.{rev_source}
-use Rattle.paths.specs.Children.{nodes_in, child as child_of}
-use Rattle.paths.specs.ChildLaws.{named_none, named_some}
-use Rattle.paths.specs.LettersLeft.{Last, all_left, one_passed, before_it, letter_step}
-use Rattle.walks.specs.WalkSteps.{LetterStep, reached_root, reached_on, reached_end, held_nowhere, held_reached}
 use Rattle.paths.specs.BeyondLaws.{held_beyond}
+use Rattle.paths.specs.FollowLaws.{none_there, node_there}
+use Rattle.walks.specs.WalkSteps.{held_nowhere, held_reached}
 use Rattle.paths.proofs.held_at.Goals as goal
-use Rattle.paths.proofs.held_at.Goals.{After-child}
-
--- the letter that the iterator gave
-last : (c : After-child)
-    → Last (iter_rest (rev_source c.loop-letter.letter-iterator)) (iter_rest (rev_source c.next.new.self)) c.in-Some.letter.now
-last c = record { is = c.in-Some.ensures.steps }
-
--- one letter further
-step_of : (c : After-child) (next : ℕ) → next ≡ child_of c.args.table.now c.loop-letter.at c.from.result
-    → LetterStep (nodes_in c.args.table.now) c.args.ending.now c.loop-letter.at
-    (length (iter_rest (rev_source c.loop-letter.letter-iterator))) c.from.result next
-step_of c next stepped = letter_step c.loop-letter.invariant.2 (last c) c.from.ensures stepped
 
 -- the table has no such root
 pub returns-then-table-root : goal.returns-then-table-root
 returns-then-table-root c = sym (held_beyond _ _ c.if-table-root.true _)
 
-pub loop-letter-init : goal.loop-letter-init
-loop-letter-init c = let a = c.args in
-    let same : c.into_iter-letter-iterator.result.iter ≡ c.iter.result
-    = ap rev_source c.into_iter-letter-iterator.ensures.into_iter_gives ∙ c.rev-letter-items.ensures.source in
-    let all : iter_rest (rev_source c.into_iter-letter-iterator.result) ≡ a.ending.now = ap iter_rest same ∙ c.iter.ensures.rest in
-    (rw all (reached_root (nodes_in a.table.now) a.root a.ending.now), omega arith, rw all (all_left a.ending.now))
-
 pub returns-in_default : goal.returns-in_default
-returns-in_default c = let a = c.args in
-    let now = c.loop-letter in
-    let none = named_none c.child.ensures.value c.in_default.is in
-    let step = step_of (goal.at.returns-in_default c).After-child 0 (sym none) in
-    sym (held_nowhere (nodes_in a.table.now) a.root a.ending.now _ (reached_end step a.root now.invariant.0 refl))
-
-pub loop-letter-preserved : goal.loop-letter-preserved
-loop-letter-preserved c = let now = c.loop-letter in
-    let at = (goal.at.loop-letter-preserved c).After-child in
-    let some = named_some c.child.ensures.value c.in-Some-child.is in
-    let fewer : length (iter_rest (rev_source now.letter-iterator)) - 1 ≡ length (iter_rest (rev_source c.next.new.self))
-    = omega (arith, before_it (last at)) in (
-      rw (← fewer) (reached_on (step_of at _ some.0) c.args.root now.invariant.0 some.1),
-      omega (arith, c.in-Some-child.ensures.upper_bound),
-      one_passed now.invariant.2 (last at),
-    )
+returns-in_default c = sym (held_nowhere _ _ _ 0 (none_there _ (sym c.in_default.is ∙ c.follow.ensures.value)))
 
 pub returns : goal.returns
-returns c = let a = c.args in
-    let now = c.loop-letter in
-    let over = c.in-None.ensures.steps in
-    c.number_at.ensures.0 ∙ held_reached (nodes_in a.table.now) a.root a.ending.now now.at _ (omega (arith, over.0)) now.invariant.0
+returns c = c.number_at.ensures.0 ∙ held_reached _ _ _ _ 0 (omega arith) (node_there _ _ c.in-Some.ensures.value)

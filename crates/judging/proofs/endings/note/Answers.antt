@@ -5,7 +5,8 @@ use mathlib.Core.Path.{◌≡◌, sym, ◌∙◌}
 use mathlib.Core.Option.{some}
 use Rattle.paths.specs.Children.{nodes_in}
 use Rattle.walks.specs.Walk.{reached}
-use Rattle.judging.specs.FollowLaws.{at_node, none_there, node_there}
+use Rattle.paths.specs.FollowLaws.{none_there, node_there}
+use Rattle.judging.specs.FollowLaws.{at_node}
 use Rattle.judging.specs.NoteLaws.{note_missed, note_first, note_later}
 use Rattle.judging.proofs.endings.note.Goals as goal
 use Rattle.judging.proofs.endings.note.Goals.{In-Some}
@@ -14,14 +15,14 @@ use Rattle.judging.proofs.endings.note.Goals.{In-Some}
 there : (c : In-Some)
     → (let a = c.args in
     reached (nodes_in a.table.now) a.root a.ending.now ≡ some c.in-Some.at)
-there c = node_there _ _ c.in-Some.ensures
+there c = node_there _ _ c.in-Some.ensures.value
 
 -- and that has its place among the notes
 place : (c : In-Some) → c.in-Some.at < length c.args.notes.now
 place c = (at_node c.requires.0 _ _ (there c)).low
 
 pub returns-in_default : goal.returns-in_default
-returns-in_default c = let whole = note_missed _ _ _ (none_there _ (sym c.in_default.is ∙ c.follow.ensures)) in
+returns-in_default c = let whole = note_missed _ _ _ (none_there _ (sym c.in_default.is ∙ c.follow.ensures.value)) in
     record { value = whole.0; notes_after = whole.1 }
 
 pub bounds-notes-at : goal.bounds-notes-at

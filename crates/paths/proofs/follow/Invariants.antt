@@ -1,4 +1,5 @@
--- `judging::endings::follow` meets its contract. The loop's invariant: the letters passed lead to this node.
+-- `paths::follow` meets its contract. The loop's invariant: the letters passed lead to this node.
+use Prim.Native.Nat.{◌<◌, ◌^◌}
 use mathlib.Core.Path.{◌≡◌}
 use mathlib.Core.Option.{some}
 use lib.ListN.{length, drop}
@@ -7,9 +8,9 @@ use Rattle.std.specs.Iterator.Adapters.{rev_source}
 use Rattle.paths.specs.Children.{nodes_in}
 use Rattle.paths.specs.LettersLeft.{Left}
 use Rattle.walks.specs.Walk.{reached}
-use Rattle.judging.proofs.endings.follow.Given as goal
+use Rattle.paths.proofs.follow.Given as goal
 
 abbrev pub invariant-loop-letter : goal.invariant-loop-letter
 invariant-loop-letter l =
     let rest = iter_rest (rev_source l.letter-iterator) in
-    (reached (nodes_in l.table) l.root (drop (length rest) l.ending) ≡ some l.at) × Left rest l.ending
+    (reached (nodes_in l.table) l.root (drop (length rest) l.ending) ≡ some l.at) × (l.root < 2 ^ 62 → l.at < 2 ^ 62) × Left rest l.ending
