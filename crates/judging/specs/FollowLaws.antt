@@ -1,6 +1,6 @@
 -- Following an ending's letters through a forest, whose nodes are all inside the table.
 use Rattle.std.specs.Prelude.{ℕ, suc, ◌+◌, ◌*◌, ◌-◌, ◌<◌, ◌≤◌, ◌≡◌, List, eqb, length}
-use Rattle.std.proofs.Common.{◌∙◌, arith, eqb-true}
+use Rattle.std.proofs.Common.{◌∙◌, arith, eqb-true, ne_eqb}
 use Rattle.std.proofs.Math.Option.{some}
 use Rattle.paper.specs.TestLaws.{by_test}
 use Rattle.paths.specs.Children.{first_child, child_count, sought, child, nodes_in}
@@ -46,6 +46,14 @@ module _ {table : List ℕ} {root size : ℕ} (rooted : Rooted table root size) 
         children_in = omega (arith, children_end, forest.inside);
         few = omega (arith, children_end, rooted.fits.few);
       }
+
+  -- a node stands before its children, so none of them is node 0
+  pub first_behind : 0 < child_count table at → 0 < first_child table at
+  first_behind more =
+      let row = forest.row at at_in in
+      let is-first : first_child table at ≡ total table rooted.roots at = row.first_is
+      ∙ rw (ne_eqb (child_count table at) 0 (λ none. omega arith)) in
+      omega (arith, row.ahead)
 
 -- one of the roots
 pub rooted_in : {table : List ℕ} {root roots size many : ℕ} → Fits table roots size → root < roots → many ≡ size → Rooted table root many

@@ -1,9 +1,9 @@
 // The endings of a sheet's rules, followed through a table: the first rule that ends at each node is noted, and held against the
 // rule that the node holds.
-ghost use Rattle.std.specs.Prelude.{◌≡◌, ◌*◌, ◌≤◌, length};
+ghost use Rattle.std.specs.Prelude.{◌≡◌, ◌*◌, ◌-◌, ◌<◌, ◌≤◌, length};
 ghost use Rattle.forests.specs.Forest.{Forest};
 ghost use Rattle.forests.specs.Shapes.{Told};
-ghost use Rattle.paths.specs.Children.{nodes_in};
+ghost use Rattle.paths.specs.Children.{sought, named, handed, nodes_in};
 ghost use Rattle.sheets.specs.Accepted.{groups_of};
 ghost use Rattle.walks.specs.Ends.{ends};
 ghost use Rattle.walks.specs.Faithful.{exists};
@@ -12,9 +12,38 @@ ghost use Rattle.judging.specs.Led.{Led};
 ghost use Rattle.judging.specs.Notes.{noted, Fits, Rooted, Blank, NotedAs, Held};
 
 use passing::pass;
-use paths::follow;
 use records::Record;
 use sheets::AcceptedSheet;
+
+// The node of this letter among those from `first` up to `end`, if one has it. They are known to be inside the table, so no read is
+// tested, and none of them is node 0, which is a root.
+fn among(table: &[u16], first: usize, end: usize, letter: usize) -> Option<usize>
+    requires { (first ≤ end) × ((4 * end ≤ length table.now) × ((end ≤ 1552) × (first < end → 0 < first))) }
+    ensures { result ≡ named (sought (end - first) table.now letter first) }
+{
+    for at in first..end {
+        let here = usize::from(table[4 * at]);
+        if letter <= here {
+            return (letter == here).then_some(at);
+        }
+    }
+    None
+}
+
+// The node to which an ending's letters lead from a root of a forest, if they lead to one. `follow` of paths finds the same in any
+// table, and so has to test each read.
+fn follow(table: &[u16], root: usize, ending: &[u8]) -> Option<usize>
+    requires { Rooted table.now root 1552 }
+    ensures { result ≡ handed (reached (nodes_in table.now) root ending.now) }
+{
+    let mut at = root;
+    for letter in ending.iter().rev() {
+        let first = usize::from(table[4 * at + 1]);
+        let end = first + usize::from(table[4 * at + 2]);
+        at = among(table, first, end, usize::from(*letter))?;
+    }
+    Some(at)
+}
 
 // Notes at the node where an ending leads the rule that has it, if none is noted there. Whether it leads anywhere.
 fn note(table: &[u16], root: usize, ending: &[u8], rule: u8, notes: &mut [u8]) -> bool

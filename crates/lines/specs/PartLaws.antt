@@ -1,11 +1,11 @@
 -- The parts of a line: each is found where it is printed, and what is found is printed there.
 use Prim.Native.Nat.{ℕ, zero, suc, ◌+◌, ◌-◌, ◌≤◌, ◌<◌}
-use Rattle.std.specs.Prelude.{◌≡◌, refl, Bool, true, false, ◌&&◌, List, [], ◌∷◌, ◌++◌, eqb, ltb, length, take, drop, Option, Some, None}
+use Rattle.std.specs.Prelude.{◌≡◌, refl, true, false, ◌&&◌, List, [], ◌∷◌, ◌++◌, eqb, ◌==◌, ltb, length, take, drop, Option, Some, None}
 use Rattle.std.proofs.Common.{sym, ap, subst, ◌∙◌, true≢false, append_assoc, arith, take-append-drop, length-take, drop-drop}
 use Rattle.std.proofs.Math.Bool.{and-false}
 use Rattle.std.proofs.Math.ListN.{length-append, length-drop}
 use borrow.Author.Tests.{eqb-true, eq-eqb, ne_eqb, lt-ltb, ltb-true}
-use Rattle.std.specs.List.{starts_with as asks_starts}
+use Rattle.std.specs.List.{list_all, zip}
 use Rattle.paper.specs.Letters.{letters}
 use Rattle.paper.specs.Groups.{gate_of}
 use Rattle.paper.specs.TestLaws.{by_test, and_parts}
@@ -55,15 +55,24 @@ starts_front (x ∷ front) (y ∷ rest) is =
       rest_is = rw (eqb-true x y both.0) (ap (λ (l : List ℕ). y ∷ l) (starts_front front rest both.1).rest_is);
     }
 
--- as the library asks it
-starts_as : (front rest : List ℕ) → asks_starts eqb rest front ≡ starts_with front rest
-unfolding starts_with
-starts_as [] rest = refl
-starts_as (x ∷ front) [] = refl
-starts_as (x ∷ front) (y ∷ rest) = ap (λ (b : Bool). eqb x y && b) (starts_as front rest)
+-- what the bytes begin with at a place stands inside them
+pub front_inside : (front rest : List ℕ) (at : ℕ) → at ≤ length rest → starts_with front (drop at rest) ≡ true
+    → at + length front ≤ length rest
+front_inside front rest at low is = omega (arith, inside (starts_front front (drop at rest) is), length-drop at rest)
 
-pub asked : (front rest : List ℕ) (answer : Bool) → answer ≡ asks_starts eqb rest front → starts_with front rest ≡ answer
-asked front rest answer is = sym (is ∙ starts_as front rest)
+-- as the code asks it, pair by pair
+pub starts_short : (front rest : List ℕ) → length rest < length front → starts_with front rest ≡ false
+unfolding starts_with
+starts_short [] rest short = absurd (omega arith)
+starts_short (x ∷ front) [] short = refl
+starts_short (x ∷ front) (y ∷ rest) short = rw (starts_short front rest (omega arith)) (and-false (eqb x y))
+
+pub starts_paired : (front rest : List ℕ) → length front ≤ length rest
+    → list_all (λ (p : ℕ × ℕ). p.0 == p.1) (zip front (take (length front) rest)) ≡ starts_with front rest
+unfolding starts_with
+starts_paired [] rest long = refl
+starts_paired (x ∷ front) [] long = absurd (omega arith)
+starts_paired (x ∷ front) (y ∷ rest) long = rw (starts_paired front rest (omega arith))
 
 other_apart : (x y : ℕ) → small x ≡ false → small y ≡ true → eqb x y ≡ false
 other_apart x y other one = ne_eqb x y (λ same. true≢false (sym one ∙ (rw (← same) other)))

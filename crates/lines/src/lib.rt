@@ -7,7 +7,7 @@ mod parts;
 ghost use Rattle.std.specs.Prelude.{◌≡◌, ◌≤◌, length};
 ghost use Rattle.lines.specs.Reading.{found_in, after_condition, after_arrow, closed_in};
 
-use parts::{Close, Head, read_close, read_head, read_part};
+use parts::{Close, Head, read_close, read_head, read_part, starts};
 
 // A rule's line, by places in the bytes that begin with it: its ending stands from `start` to `middle`, its replacement from `from` to
 // `end`, and the next line begins at `taken`.
@@ -62,7 +62,7 @@ fn replaced(
     requires { from ≤ length rest.now }
     ensures { result ≡ after_arrow rest.now condition start middle from }
 {
-    if rest[from..].starts_with(b"single letter") {
+    if starts(&rest[from..], b"single letter") {
         let line = RuleLine {
             condition,
             action: 1,
@@ -96,7 +96,7 @@ fn rule(rest: &[u8], condition: u8, start: usize) -> Option<LineRead>
 {
     let letters = read_part(&rest[start..])?;
     let arrow = start + letters.taken;
-    if rest[arrow..].starts_with(b" -> ") {
+    if starts(&rest[arrow..], b" -> ") {
         return replaced(rest, condition, start, start + letters.count, arrow + 4);
     }
     None

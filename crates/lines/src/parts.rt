@@ -1,6 +1,7 @@
 // The parts of a line: what it begins with, its letters, and what closes it. Each is read where the bytes begin with it.
-ghost use Rattle.std.specs.Prelude.{◌≡◌, ◌<◌};
-ghost use Rattle.lines.specs.Reading.{spelled, spelled_in, head_in, part_in, close_in};
+ghost use Rattle.std.specs.Prelude.{◌≡◌, ◌<◌, ◌==◌, zip};
+ghost use Rattle.std.specs.List.{list_all};
+ghost use Rattle.lines.specs.Reading.{starts_with, spelled, spelled_in, head_in, part_in, close_in};
 
 // What a line begins with: a whole group's line, or a condition and the space behind it; and how many bytes these are.
 #[derive(Clone, Copy)]
@@ -21,6 +22,24 @@ pub struct Letters {
 pub enum Close {
     Plain,
     Opens,
+}
+
+// Whether two parts have the same bytes, from the first on, as far as the shorter reaches.
+fn alike(one: &[u8], other: &[u8]) -> bool
+    ensures { result ≡ list_all (λ p. p.0 == p.1) (zip one.now other.now) }
+{
+    one.iter().zip(other).all(|(byte, its)| *byte == *its)
+}
+
+// Whether the bytes begin with these. Of a literal each comparison is made in place, since both parts have its length; the library's
+// `starts_with` is a call each time, which made a sheet of lines take twice as long.
+pub(crate) fn starts(rest: &[u8], front: &[u8]) -> bool
+    ensures { result ≡ starts_with front.now rest.now }
+{
+    if rest.len() < front.len() {
+        return false;
+    }
+    alike(front, &rest[..front.len()])
 }
 
 // The condition of this number, as 01's table prints it, and the space behind it.
@@ -48,7 +67,7 @@ fn read_condition(rest: &[u8]) -> Option<Head>
 {
     for number in (0..9).rev() {
         let spelled = spelling(number);
-        if rest.starts_with(spelled) {
+        if starts(rest, spelled) {
             return Some(Head::Condition {
                 number: number as u8,
                 taken: spelled.len(),
@@ -61,10 +80,10 @@ fn read_condition(rest: &[u8]) -> Option<Head>
 pub(crate) fn read_head(rest: &[u8]) -> Option<Head>
     ensures { result ≡ head_in rest.now }
 {
-    if rest.starts_with(b"group\n") {
+    if starts(rest, b"group\n") {
         return Some(Head::Group { gate: 0, taken: 6 });
     }
-    if rest.starts_with(b"group opened\n") {
+    if starts(rest, b"group opened\n") {
         return Some(Head::Group { gate: 1, taken: 13 });
     }
     read_condition(rest)
@@ -81,7 +100,7 @@ pub(crate) fn read_part(rest: &[u8]) -> Option<Letters>
             taken: count,
         });
     }
-    if rest.starts_with(b"-") {
+    if starts(rest, b"-") {
         return Some(Letters { count: 0, taken: 1 });
     }
     None
@@ -90,10 +109,10 @@ pub(crate) fn read_part(rest: &[u8]) -> Option<Letters>
 pub(crate) fn read_close(rest: &[u8]) -> Option<Close>
     ensures { result ≡ close_in rest.now }
 {
-    if rest.starts_with(b"\n") {
+    if starts(rest, b"\n") {
         return Some(Close::Plain);
     }
-    if rest.starts_with(b" opens\n") {
+    if starts(rest, b" opens\n") {
         return Some(Close::Opens);
     }
     None
