@@ -2,7 +2,7 @@
 -- that is accepted are the records that it holds.
 use Prim.Native.Nat.{ℕ, zero, suc, ◌+◌, ◌-◌, ◌≤◌}
 use Rattle.std.specs.Borrow.{Bor}
-use Rattle.std.specs.Prelude.{Some, None, ◌≡◌, true, false, leb}
+use Rattle.std.specs.Prelude.{Option as Answer, Some, None, ◌≡◌, true, false, leb}
 use Rattle.std.proofs.Math.Path.{refl, sym, ap, ap₂, subst}
 use Rattle.std.proofs.Common.{◌∙◌, drop-drop, leb-true, le-leb}
 use mathlib.Core.List.{List, [], ◌∷◌}
@@ -20,7 +20,7 @@ use Rattle.records.specs.RecordLaws.{EndHere}
 use Rattle.lists.specs.Lists.{Entry, word_length, word_in, stem_in, entry_in, find}
 use Rattle.lists.specs.Lists.{Listing, faulty_at_lem, holding, entry_then, read_rest, read_list}
 use Rattle.lists.specs.Calls.{entries_of, held, stem_place}
-use Rattle.lists.specs.Searches.{Place, Listed, Unlisted, LentFrom, fits, passed_rest, passed, is_for, search_rest, searched, found_in, found}
+use Rattle.lists.specs.Searches.{Place, Listed, Unlisted, LentFrom, Alike, fits, passed_rest, passed, is_for, search_rest, searched, found_in, found}
 use Rattle.lists.specs.EntryLaws.{word_length_lem, sound}
 use Rattle.lists.specs.ListSteps.{EntryHere, Found, a_fault, an_entry, the_close, look, closed}
 use Rattle.lists.specs.ListSteps.{entry-step, close-step, fault_step}
@@ -230,11 +230,21 @@ module _ (list word : List ℕ) where
 -- ## What is lent is what stands there
 
 module _ (list : Bor (List ℕ)) where
-  -- so any two parts that the search may hand back have the same bytes, and stand at the same place
+  -- so any two parts that may be handed back have the same bytes, and stand at the same place
   pub lent_one : (place : Place) (one other : Bor (List ℕ)) → LentFrom list place (Some one) → LentFrom list place (Some other)
       → (one.now ≡ other.now) × (one.ref_ptr ≡ other.ref_ptr)
   lent_one (Listed start end) one other a b = (settled a.0 b.0, settled a.1 b.1)
   lent_one Unlisted one other a b = absurd a
+
+  -- and any two answers of the search are alike: where one hands back a part, no other hands back none
+  pub search_one : (place : Place) (one other : Answer (Bor (List ℕ))) → LentFrom list place one → LentFrom list place other
+      → Alike one other
+  search_one place (Some one) (Some other) a b = lent_one place one other a b
+  search_one (Listed start end) (Some one) None a b = absurd b
+  search_one Unlisted (Some one) None a b = absurd a
+  search_one (Listed start end) None (Some other) a b = absurd a
+  search_one Unlisted None (Some other) a b = absurd b
+  search_one place None None a b = tt
 
   pub lent_stem : (place : Place) (stem : Option (List ℕ)) (part : Bor (List ℕ)) → LentFrom list place (Some part)
       → Stands list.now stem place

@@ -39,6 +39,13 @@ LentFrom list (Listed start end) None = ⊥
 LentFrom list Unlisted (Some part) = ⊥
 LentFrom list Unlisted None = Unit {0}
 
+-- two answers that nobody can tell apart: the same bytes at the same place, or nothing both times
+abbrev pub Alike : Option (Bor (List ℕ)) → Option (Bor (List ℕ)) → Type 0
+Alike (Some one) (Some other) = (one.now ≡ other.now) × (one.ref_ptr ≡ other.ref_ptr)
+Alike (Some one) None = ⊥
+Alike None (Some other) = ⊥
+Alike None None = Unit {0}
+
 unfoldable pub is_for : List ℕ → List ℕ → Bool
 is_for body word = fits body && same (word_in body) word
 

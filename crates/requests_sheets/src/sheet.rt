@@ -6,7 +6,7 @@ use std::io::{Read, Write};
 // Reads the sheet, answers, and says whether the request was whole. A sheet may have 16,384 bytes.
 pub fn answered(from: &mut impl Read, to: &mut impl Write) -> io::Result<bool> {
     let mut space = [0u8; 16384];
-    let Some(length) = input::read(from, &mut space)? else {
+    let Ok(length) = input::read(from, &mut space)? else {
         return Ok(false);
     };
     let reply = answers::sheet_in_numbers(sheets::check(&space[..length]));

@@ -15,10 +15,10 @@ fn read_both(
 ) -> io::Result<Option<(usize, usize)>>
     ensures { IfOk result (λ both. IfSome both (λ sizes. IsPrefixLen sizes.0 sheet.new × IsPrefixLen sizes.1 table.new)) }
 {
-    let Some(size) = input::read(from, sheet)? else {
+    let Ok(size) = input::read(from, sheet)? else {
         return Ok(None);
     };
-    let Some(count) = input::read_table(from, table)? else {
+    let Ok(count) = input::read_table(from, table)? else {
         return Ok(None);
     };
     Ok(Some((size, count)))
@@ -49,7 +49,7 @@ pub fn answered_run(from: &mut impl Read, to: &mut impl Write) -> io::Result<boo
         return Ok(false);
     };
     let mut word = [0u8; 4096];
-    let Some(length) = input::read(from, &mut word)? else {
+    let Ok(length) = input::read(from, &mut word)? else {
         return Ok(false);
     };
     answer_run(to, &sheet[..size], &table[..count], &mut word[..length])?;

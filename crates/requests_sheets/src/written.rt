@@ -6,11 +6,11 @@ use std::io::{Read, Write};
 // Reads the lines and the sheet, answers, and says whether the request was whole. Each may have 16,384 bytes.
 pub fn answered(from: &mut impl Read, to: &mut impl Write) -> io::Result<bool> {
     let mut line_space = [0u8; 16384];
-    let Some(length) = input::read(from, &mut line_space)? else {
+    let Ok(length) = input::read(from, &mut line_space)? else {
         return Ok(false);
     };
     let mut sheet_space = [0u8; 16384];
-    let Some(size) = input::read(from, &mut sheet_space)? else {
+    let Ok(size) = input::read(from, &mut sheet_space)? else {
         return Ok(false);
     };
     answer(to, &line_space[..length], &mut sheet_space[..size])?;

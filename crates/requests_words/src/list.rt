@@ -16,10 +16,10 @@ fn read_both(
 ) -> io::Result<Option<(usize, usize)>>
     ensures { IfOk result (λ both. IfSome both (λ sizes. IsPrefixLen sizes.0 list.new × IsPrefixLen sizes.1 other.new)) }
 {
-    let Some(size) = input::read(from, list)? else {
+    let Ok(size) = input::read(from, list)? else {
         return Ok(None);
     };
-    let Some(length) = input::read(from, other)? else {
+    let Ok(length) = input::read(from, other)? else {
         return Ok(None);
     };
     Ok(Some((size, length)))

@@ -8,7 +8,7 @@ use std::io::{Read, Write};
 // Reads the text, answers, and says whether the request was whole. A text may have 70,000 bytes.
 pub fn answered_run(from: &mut impl Read, to: &mut impl Write) -> io::Result<bool> {
     let mut space = spaces::of_text();
-    let Some(length) = input::read(from, &mut space)? else {
+    let Ok(length) = input::read(from, &mut space)? else {
         return Ok(false);
     };
     answer_run(to, &mut space[..length])?;
@@ -26,7 +26,7 @@ pub fn answered_next(from: &mut impl Read, to: &mut impl Write) -> io::Result<bo
     let mut space = spaces::of_text();
     let text = input::read(from, &mut space)?;
     let place = input::read_number(from)?;
-    let (Some(length), Some(place)) = (text, place) else {
+    let (Ok(length), Some(place)) = (text, place) else {
         return Ok(false);
     };
     output::number(to, pieces::next_word_at(&space[..length], place))?;

@@ -27,7 +27,7 @@ fn answered_within<const N: usize>(
     requires { N ≤ 1048576 }
 {
     let mut space = [0u8; N];
-    let Some(length) = input::read_bytes(from, &mut space, size)? else {
+    let Ok(length) = input::read_bytes(from, &mut space, size)? else {
         return Ok(false);
     };
     let reply = answers::in_numbers(vocabularies::check(&space[..length]));

@@ -6,7 +6,7 @@ use std::io::{Read, Write};
 // Reads the word, answers, and says whether the request was whole. A word may have 4,096 bytes.
 pub fn answered(from: &mut impl Read, to: &mut impl Write) -> io::Result<bool> {
     let mut space = [0u8; 4096];
-    let Some(length) = input::read(from, &mut space)? else {
+    let Ok(length) = input::read(from, &mut space)? else {
         return Ok(false);
     };
     answer(to, &mut space[..length])?;
