@@ -1,17 +1,18 @@
 -- The body of one record: what its word and its stem are where it is long enough, and what it is known to have where it is not faulty.
-use Prim.Native.Nat.{ℕ, ◌+◌, ◌-◌, ◌≤◌, ◌<◌}
+use Prim.Native.Nat.{ℕ, zero, suc, ◌+◌, ◌-◌, ◌≤◌, ◌<◌}
 use Rattle.std.specs.Prelude.{◌≡◌, Bool, true, false, not, ◌&&◌, List, [], ◌∷◌, ◌++◌, eqb, leb, ltb, take, drop}
 use Rattle.std.proofs.Math.Path.{refl, ap, ap₂}
-use Rattle.std.proofs.Common.{sym, ◌∙◌, take-append-drop, length-take}
-use Rattle.std.proofs.Math.Bool.{and-false, and-true}
+use Rattle.std.proofs.Common.{sym, ◌∙◌, take-append-drop, length-take, take-take}
+use Rattle.std.proofs.Math.Bool.{and-false, and-true, and_assoc}
 use Rattle.std.specs.List.{starts_with}
 use lib.Pointwise.{pointwise}
 use native.Mathlib.Omega.{arith}
 use Rattle.std.proofs.Math.ListN.{length, length-drop}
 use Rattle.std.proofs.Math.Seq.{drop-drop, length-take-le}
 use borrow.Author.Tests.{eq-eqb, eqb-true, ltb-false, leb-true, not-false, le-leb}
-use Rattle.paper.specs.Groups.{same}
+use Rattle.paper.specs.Groups.{same, ends_with}
 use Rattle.paper.specs.GroupsLaws.{same_equal}
+use Rattle.paper.specs.ListLaws.{drop-take}
 use Rattle.paper.specs.TestLaws.{by_test, test_ext, neither_left, neither_right, all_of_six, and_parts}
 use Rattle.paper.specs.Words.{all_small}
 use Rattle.lists.specs.Lists.{Entry, allowed, word_length, word_in, stem_in, entry_in, faulty_entry}
@@ -123,6 +124,62 @@ letters_same [] [] = refl
 letters_same [] (y ∷ ys) = refl
 letters_same (x ∷ xs) [] = refl
 letters_same (x ∷ xs) (y ∷ ys) = ap₂ (λ (a b : Bool). a && b) (either_way y x) (letters_same xs ys)
+
+-- those up to a place, and those behind it
+same_parts : (k : ℕ) (xs ys : List ℕ) → same xs ys ≡ same (take k xs) (take k ys) && same (drop k xs) (drop k ys)
+unfolding same
+same_parts zero xs ys = refl
+same_parts (suc k) [] [] = refl
+same_parts (suc k) [] (y ∷ ys) = refl
+same_parts (suc k) (x ∷ xs) [] = refl
+same_parts (suc k) (x ∷ xs) (y ∷ ys) =
+    ap (λ (b : Bool). eqb x y && b) (same_parts k xs ys)
+    ∙ sym (and_assoc (eqb x y) (same (take k xs) (take k ys)) (same (drop k xs) (drop k ys)))
+
+-- whether bytes begin with a word, which is no longer
+module _ (bytes word : List ℕ) where
+  pub begins_short : length bytes < length word → false ≡ starts_with eqb bytes word
+  begins_short short =
+      let first = take (length word) bytes in
+      let never : same first word ≡ true → ⊥ =
+      λ is. let so_long = ap length (same_equal first word is) in omega (arith, so_long, length-take (length word) bytes)
+      in
+      rw (letters_same first word) (by_test (same first word) (λ is. absurd (never is)) (λ is-not. sym is-not))
+
+  pub begins_parts : (few : ℕ) → few ≤ length word → length word ≤ length bytes
+      → starts_with eqb bytes word ≡ ends_with (take few bytes) (take few word) && starts_with eqb (drop few bytes) (drop few word)
+  unfolding ends_with
+  begins_parts few within long =
+      let first : length (take few bytes) ≡ few = length-take-le few bytes (omega arith) in
+      let its : length (take few word) ≡ few = length-take-le few word within in
+      let left : length (drop few word) ≡ length word - few = length-drop few word in
+      let none : length (take few bytes) - length (take few word) ≡ 0 = omega (arith, first, its) in
+      letters_same (take (length word) bytes) word
+      ∙ same_parts few (take (length word) bytes) word
+      ∙ ap₂ (λ (a b : Bool). a && b)
+      (ap (λ (l : List ℕ). same l (take few word)) (take-take few (length word) bytes within)
+      ∙ ap (λ (n : ℕ). same (drop n (take few bytes)) (take few word)) (sym none))
+      (ap (λ (l : List ℕ). same l (drop few word)) (drop-take few (length word) bytes ∙ ap (λ (n : ℕ). take n (drop few bytes)) (sym left))
+      ∙ sym (letters_same (take (length (drop few word)) (drop few bytes)) (drop few word)))
+
+  -- so where its first letters do not stand first, the bytes begin with another, and where they do the rest decides
+  module _ (few : ℕ) (within : few ≤ length word) (long : length word ≤ length bytes) where
+    pub begins_otherwise : ends_with (take few bytes) (take few word) ≡ false → false ≡ starts_with eqb bytes word
+    begins_otherwise other =
+        sym (begins_parts few within long ∙ ap (λ (b : Bool). b && starts_with eqb (drop few bytes) (drop few word)) other)
+
+    pub begins_so : ends_with (take few bytes) (take few word) ≡ true
+        → starts_with eqb (drop few bytes) (drop few word) ≡ starts_with eqb bytes word
+    begins_so so =
+        sym (begins_parts few within long ∙ ap (λ (b : Bool). b && starts_with eqb (drop few bytes) (drop few word)) so)
+
+  -- or all of them decide at once
+  pub begins_whole : length word ≤ length bytes → ends_with (take (length word) bytes) word ≡ starts_with eqb bytes word
+  unfolding ends_with
+  begins_whole long =
+      let first : length (take (length word) bytes) ≡ length word = length-take-le (length word) bytes long in
+      let none : length (take (length word) bytes) - length word ≡ 0 = omega (arith, first) in
+      ap (λ (n : ℕ). same (drop n (take (length word) bytes)) word) none ∙ sym (letters_same (take (length word) bytes) word)
 
 -- behind a byte n that is the word's length
 module _ (body word : List ℕ) (size : word_length body ≡ length word) where
