@@ -62,22 +62,35 @@ pub fn check(list: &[u8]) -> Result<usize, FaultyList>
     Ok(count)
 }
 
-// How many letters are compared one by one, until one differs. Of records as long as the word most differ early, and the library's
-// comparison, which takes many at a time, is a call: only behind so many letters does it take no longer.
+// How many letters behind the first are compared one by one, until one differs. The library's comparison, which takes many at a time, is
+// a call: only behind so many letters does it take no longer.
 const FEW: usize = 24;
 
-// Whether the bytes begin with the word.
+// Whether the bytes go on with the word's other letters.
+fn go_on(bytes: &[u8], others: &[u8]) -> bool
+    ensures { result ≡ starts_with eqb bytes.now others.now }
+{
+    if bytes.len() < others.len() {
+        return false;
+    }
+    if others.len() <= FEW {
+        return letters::ends_with(&bytes[..others.len()], others);
+    }
+    let so_far = letters::ends_with(&bytes[..FEW], &others[..FEW]);
+    so_far && bytes[FEW..].starts_with(&others[FEW..])
+}
+
+// Whether the bytes begin with the word. Its first letter is asked by itself, as most records for words of its length differ there.
 fn begin(bytes: &[u8], word: &[u8]) -> bool
     ensures { result ≡ starts_with eqb bytes.now word.now }
 {
     if bytes.len() < word.len() {
         return false;
     }
-    if word.len() <= FEW {
-        return letters::ends_with(&bytes[..word.len()], word);
-    }
-    let so_far = letters::ends_with(&bytes[..FEW], &word[..FEW]);
-    so_far && bytes[FEW..].starts_with(&word[FEW..])
+    let [first, others @ ..] = word else {
+        return true;
+    };
+    bytes[0] == *first && go_on(&bytes[1..word.len()], others)
 }
 
 // Whether a record of this body is for this word. Its letters were judged before; that its stem has room in the word's place is asked
@@ -92,17 +105,17 @@ fn is_for(body: &[u8], word: &[u8]) -> bool
 }
 
 // The stem in the first record for a word of a list that was accepted, as a part of the list: its records are passed by their frames,
-// and judged no more.
+// and judged no more. What is left of the list is kept, and not a place in it: so each record takes fewer steps.
 pub fn search<'a>(list: &'a [u8], word: &[u8]) -> Option<&'a [u8]>
     ensures { LentFrom list.entry (searched list.now word.now) result }
 {
-    let mut at = 0;
-    while let Some(frame) = frame_at(list, at) {
-        let body = &list[frame.body..frame.next];
-        if is_for(body, word) {
-            return Some(&body[1 + word.len()..]);
+    let mut rest = list;
+    while let Some(frame) = frame_at(rest, 0) {
+        if is_for(&rest[frame.body..frame.next], word) {
+            let at = list.len() - rest.len();
+            return Some(&list[at + frame.body + 1 + word.len()..at + frame.next]);
         }
-        at = frame.next;
+        rest = &rest[frame.next..];
     }
     None
 }
